@@ -71,7 +71,7 @@ begun : (c : After-struct_known-1) → Passed 0 (start_of c)
 begun c =
     let z = start_of c in record {
       is = made-later _ (run z) (ranges z) (rows z) _ _
-          ∙ ap (λ t. upto t (run z ∷ rows z ∷ zeros z)) (table_same z.args.slots.now z.args.m.count z.pre.table (λ i. (c.shared_slice_known-2-1.given i).fits));
+          ∙ ap (λ t. upto t (run z ∷ rows z ∷ zeros z)) (table_same z.args.slots.now z.args.m.count z.requires.table (λ i. (c.shared_slice_known-2-1.given i).fits));
     }
 
 -- the set has the chain's slots
@@ -92,7 +92,7 @@ passed-3 : (c : Else-not-rows_ok) → Passed 3 (start_of c.before.before.before.
 passed-3 c = pass (passed-2 c.before.before.before.before) (rows_are c.before true c.if-not-rows_ok.false)
 
 pub overflow_mul-m : goal.overflow_mul-m
-overflow_mul-m c = let start = start_of c.before in omega (arith, start.pre.table, start.good)
+overflow_mul-m c = let start = start_of c.before in omega (arith, start.requires.table, start.good)
 
 pub returns-then-not-rest_ok : goal.returns-then-not-rest_ok
 returns-then-not-rest_ok c = stop (begun c.before.before.before) (sym c.rest_ok.ensures ∙ c.if-not-rest_ok.true)
@@ -121,7 +121,7 @@ pub returns-then-not-rows_ok : goal.returns-then-not-rows_ok
 returns-then-not-rows_ok c = stop (passed-2 c.before.before.before.before.before) (rows_are c.before.before false c.if-not-rows_ok.true)
 
 pub overflow_mul-sizes : goal.overflow_mul-sizes
-overflow_mul-sizes c = let start = start_of c.before.before.before.before.before.before.before.before.before.before.before in omega (arith, start.pre.on-stack, start.good)
+overflow_mul-sizes c = let start = start_of c.before.before.before.before.before.before.before.before.before.before.before in omega (arith, start.requires.on-stack, start.good)
 
 pub returns-then-not-rest_ok-2 : goal.returns-then-not-rest_ok-2
 returns-then-not-rest_ok-2 c = stop (passed-3 c.before.before.before.before) (sym c.rest_ok-2.ensures ∙ c.if-not-rest_ok-2.true)
@@ -130,7 +130,7 @@ pub overflow_mul-sizes-2 : goal.overflow_mul-sizes-2
 overflow_mul-sizes-2 c = omega (arith, (start_of c.before.before.before.before.before.before.before.before.before.before.before.before.before.before).requires.deep)
 
 pub overflow_mul-sizes-3 : goal.overflow_mul-sizes-3
-overflow_mul-sizes-3 c = let start = start_of c.before.before.before.before.before.before.before.before.before.before.before.before.before.before.before in omega (arith, start.pre.on-frames, start.good)
+overflow_mul-sizes-3 c = let start = start_of c.before.before.before.before.before.before.before.before.before.before.before.before.before.before.before in omega (arith, start.requires.on-frames, start.good)
 
 pub returns : goal.returns
 returns c = last (pass (passed-3 c.before.before.before.before.before.before.before) (sym c.rest_ok-2.ensures ∙ c.if-not-rest_ok-2.false)) c.rest_ok-3.ensures

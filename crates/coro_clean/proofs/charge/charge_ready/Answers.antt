@@ -60,24 +60,24 @@ searched c w b rep snd =
     let at-store-pc = store-pc-of c.before in
     let entry = at-store-pc.before.before.before.before.before.before.before.before.before in
     c.start_finalizer-did.ensures (store_pc entry.args.pc w) b (at-store-pc.store-pc.ensures entry.args.sizes w (record { words = mem entry b; fuel = entry.args.fuel }) rep)
-    (store-sounds entry.args.pc w entry.pre.charge.narrow snd)
+    (store-sounds entry.args.pc w entry.requires.charge.narrow snd)
 
 pub start_finalizer-did-requires : goal.start_finalizer-did-requires
 start_finalizer-did-requires c =
     let at-store-pc = store-pc-of c in
     let entry = at-store-pc.before.before.before.before.before.before.before.before.before in
-    let o = entry.pre.charge.ok in
+    let o = entry.requires.charge.ok in
     stored_ok entry.args.sizes entry.args.m entry.args.fuel entry.args.stack.now entry.args.frames.now entry.args.chain.now
     entry.args.slots.now entry.args.saved_stack.now entry.args.saved_frames.now
-    entry.args.finalize.now at-store-pc.store-pc.last.0 entry.args.pc at-store-pc.store-pc.kept.0 entry.pre.charge.narrow o
+    entry.args.finalize.now at-store-pc.store-pc.last.0 entry.args.pc at-store-pc.store-pc.kept.0 entry.requires.charge.narrow o
     (at-store-pc.store-pc.ensures entry.args.sizes o.world (record { words = mem entry o.beside; fuel = entry.args.fuel }) o.rep)
 
 pub charge_or-requires : goal.charge_or-requires
 charge_or-requires c =
     let at-start-finalizer = start-finalizer-of c.before in let start = start_of at-start-finalizer in
-    let o = start.pre.charge.ok in
+    let o = start.requires.charge.ok in
     unit_left start.args.sizes _ _ _ start.args.fuel (store_pc start.args.pc o.world) _ o.rep.fuel
-    (searched at-start-finalizer o.world o.beside o.rep o.sound) start.pre.paid
+    (searched at-start-finalizer o.world o.beside o.rep o.sound) start.requires.paid
 
 pub shape_of-frames : goal.shape_of-frames
 shape_of-frames c =

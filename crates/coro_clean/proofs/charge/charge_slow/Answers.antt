@@ -37,7 +37,7 @@ returns-then-f-eq0 c =
 pub charge_ready-requires : goal.charge_ready-requires
 charge_ready-requires c =
     let start = start_of c.before.before.before.before.before.before.before.before.before.before in
-    let p = start.pre in
+    let p = start.requires in
     record {
       charge = record {
         ok = unbank-ok start.args.sizes (mem start) start.args.m start.args.fuel c.unbank-f.result c.unbank-f.ensures p.ok;

@@ -82,12 +82,12 @@ coro_enter-did-requires c =
     let at-take-front = take-front-of c.before in let entry = start_of at-take-front.before.before in
     fewer-ok entry.args.sizes entry.args.m entry.args.fuel entry.args.stack.now entry.args.frames.now entry.args.chain.now
     entry.args.slots.now entry.args.saved_stack.now entry.args.saved_frames.now
-    entry.args.finalize.now at-take-front.take-front.last.0 (entry.args.i + 1) _ entry.pre.ok at-take-front.take-front.ensures at-take-front.take-front.kept.0
+    entry.args.finalize.now at-take-front.take-front.last.0 (entry.args.i + 1) _ entry.requires.ok at-take-front.take-front.ensures at-take-front.take-front.kept.0
 
 pub set_closing-requires : goal.set_closing-requires
 set_closing-requires c =
     let at-coro-enter = coro-enter-of c.before in let at-word-at = word-at-of at-coro-enter in let entry = start_of at-word-at in
-    let o = entry.pre.ok in
+    let o = entry.requires.ok in
     (entered at-coro-enter o.world o.beside o.rep o.sound).world.slots.within
 
 pub shape_of-finalize : goal.shape_of-finalize
@@ -105,7 +105,7 @@ returns c =
     let u = (coro_enter v Driver.Finalize (fewer entry w)).world in
     let f = entry.args.fuel in
     start-does entry.args.sizes (mem entry b) entry.args.m f w rep entry.args.i v _ _ _
-    (at-word-at.word_at.ensures w.finalize entry.args.m.finalize rep.finalize entry.pre.below).is
+    (at-word-at.word_at.ensures w.finalize entry.args.m.finalize rep.finalize entry.requires.below).is
     (c.set_finalizing-marked.ensures entry.args.sizes (change_coro v (λ k. k) (close 0) u)
     (record { words = on_slots c.set_closing.new.slots (words at-coro-enter b); fuel = f })
     (c.set_closing.ensures entry.args.sizes u (record { words = words at-coro-enter b; fuel = f }) (entered at-coro-enter w b rep snd).world))

@@ -27,7 +27,7 @@ mem c b = cleaning c.args.stack.now c.args.frames.now c.args.chain.now c.args.sl
 pub first_start-i-requires : goal.first_start-i-requires
 first_start-i-requires c =
     let entry = start_of c.before in
-    let o = entry.pre in
+    let o = entry.requires in
     search-fits entry.args.sizes (mem entry o.beside) entry.args.m entry.args.fuel o.world o.rep o.sound
 
 pub start_at-requires : goal.start_at-requires
@@ -35,7 +35,7 @@ start_at-requires c =
     let entry = start_of c.before.before.before.before.before.before.before.before.before.before in
     record {
       ok = unbank-ok entry.args.sizes (mem entry) entry.args.m entry.args.fuel c.unbank-f.result c.unbank-f.ensures
-          entry.pre;
+          entry.requires;
       below = c.if-i-m.true;
     }
 

@@ -50,7 +50,7 @@ slot c = c.in-At.i
 fits : (c : In-At) → SlotFits (start_of c).args.slots.now (slot c)
 fits c =
     let s = start_of c in
-    stands-words s.args.m.count s.args.slots.now s.args.v.0 (slot c) (sym c.in-At.is ∙ c.coro_place.ensures) s.pre.ok.rep.slots.within
+    stands-words s.args.m.count s.args.slots.now s.args.v.0 (slot c) (sym c.in-At.is ∙ c.coro_place.ensures) s.requires.ok.rep.slots.within
 
 found : (c : In-At) (l : Sizes) (w : World) (b : Beside) (f : Fuel) →
     let s = start_of c in
@@ -69,7 +69,7 @@ place_of c = c.before.before.before.before
 -- the cleanup queue has room for it
 room : (c : Else-finalized_at) → let s = start_of (place_of c.before) in s.args.m.finalize < length s.args.finalize.now
 room c =
-    let place = place_of c.before in let p = (start_of place).pre in let o = p.ok in
+    let place = place_of c.before in let p = (start_of place).requires in let o = p.ok in
     (found place p.sizes o.world o.beside o.beside.fuel o.rep).room o.sound o.room (sym c.finalized_at.ensures ∙ c.if-finalized_at.false)
 
 pub coro_place-requires : goal.coro_place-requires

@@ -48,7 +48,7 @@ slot c = c.in-At.i
 fits : (c : In-At) → SlotFits (start_of c).args.slots.now (slot c)
 fits c =
     let s = start_of c in
-    stands-words s.args.m.count s.args.slots.now s.args.v.0 (slot c) (sym c.in-At.is ∙ c.coro_place.ensures) s.pre.ok.rep.slots.within
+    stands-words s.args.m.count s.args.slots.now s.args.v.0 (slot c) (sym c.in-At.is ∙ c.coro_place.ensures) s.requires.ok.rep.slots.within
 
 found : (c : In-At) (l : Sizes) (w : World) (b : Beside) →
     let s = start_of c in

@@ -49,8 +49,8 @@ found c = sym c.in-Row.is ∙ c.find_spot.ensures
 
 told : (c : After-regs_at-regs) → Numbers (start_of c).args.sizes c.regs_at-regs.result
 told c =
-    let start = start_of c in let a = start.args in let o = start.pre.ok in
-    numbers a.sizes (mem start o.beside) a.m o.beside.fuel o.world o.rep a.f o.sound start.pre.function c.regs_at-regs.result c.regs_at-regs.ensures
+    let start = start_of c in let a = start.args in let o = start.requires.ok in
+    numbers a.sizes (mem start o.beside) a.m o.beside.fuel o.world o.rep a.f o.sound start.requires.function c.regs_at-regs.result c.regs_at-regs.ensures
 
 pub regs_at-regs-requires : goal.regs_at-regs-requires
 regs_at-regs-requires c =
@@ -72,23 +72,23 @@ alloc-requires c =
 
 pub write_row-requires : goal.write_row-requires
 write_row-requires c =
-    let at-regs-at = regs-at-of c.before.before.before.before.before.before.before.before.before.before.before.before.before.before.before in let start = start_of at-regs-at in let a = start.args in let o = start.pre.ok in
+    let at-regs-at = regs-at-of c.before.before.before.before.before.before.before.before.before.before.before.before.before.before.before in let start = start_of at-regs-at in let a = start.args in let o = start.requires.ok in
     write-fits a.sizes (mem start o.beside) a.m o.beside.fuel o.world o.rep o.sound a.f a.closure a.n at-regs-at.regs-at.result a.args
-    (few start) start.pre.function at-regs-at.regs-at.ensures (row c.before.before.before.before.before.before.before.before.before.before.before.before.before.before.before) (found c.before.before.before.before.before.before.before.before.before.before.before.before.before.before.before) start.pre.few
+    (few start) start.requires.function at-regs-at.regs-at.ensures (row c.before.before.before.before.before.before.before.before.before.before.before.before.before.before.before) (found c.before.before.before.before.before.before.before.before.before.before.before.before.before.before.before) start.requires.few
 
 pub returns-in-Lacks : goal.returns-in-Lacks
 returns-in-Lacks c =
     let start = start_of c.before.before.before.before.before in let a = start.args in
     λ w b rep snd.
     not-created a.sizes (mem start b) a.m b.fuel w rep snd a.f a.closure a.n c.regs_at-regs.result a.args
-    (few start) start.pre.function c.regs_at-regs.ensures _ (sym c.in-Lacks.is ∙ c.find_spot.ensures)
+    (few start) start.requires.function c.regs_at-regs.ensures _ (sym c.in-Lacks.is ∙ c.find_spot.ensures)
 
 pub returns-in-Refused : goal.returns-in-Refused
 returns-in-Refused c =
     let at-regs-at = regs-at-of c.before.before.before.before.before.before.before.before.before.before.before.before.before in let start = start_of at-regs-at in let a = start.args in
     λ w b rep snd.
     not-charged a.sizes (mem start b) a.m b.fuel w rep snd a.f a.closure a.n at-regs-at.regs-at.result a.args
-    (few start) start.pre.function at-regs-at.regs-at.ensures (row c.before.before.before.before.before.before.before.before.before.before.before.before.before) (found c.before.before.before.before.before.before.before.before.before.before.before.before.before) _ c.sequenced-q.result _ c.sequenced-q.ensures
+    (few start) start.requires.function at-regs-at.regs-at.ensures (row c.before.before.before.before.before.before.before.before.before.before.before.before.before) (found c.before.before.before.before.before.before.before.before.before.before.before.before.before) _ c.sequenced-q.result _ c.sequenced-q.ensures
     (alloc_told a.slots.now _ _ _ _ _ _ _ _ _ c.alloc.ensures c.in-Refused.is
     (c.heap_of.ensures ∙ ap (λ q. heap_of q a.sizes) c.sequenced-q.ensures) c.bytes-charge.ensures c.new_object.ensures)
 
@@ -97,6 +97,6 @@ returns-in-Done c =
     let at-regs-at = regs-at-of c.before.before.before.before.before.before.before.before.before.before.before.before.before.before.before.before.before.before.before.before.before in let start = start_of at-regs-at in let a = start.args in
     λ w b rep snd.
     was-created a.sizes (mem start b) a.m b.fuel w rep snd a.f a.closure a.n at-regs-at.regs-at.result a.args
-    (few start) start.pre.function at-regs-at.regs-at.ensures (row c.before.before.before.before.before.before.before.before.before.before.before.before.before.before.before.before.before.before.before.before.before) (found c.before.before.before.before.before.before.before.before.before.before.before.before.before.before.before.before.before.before.before.before.before) _ (room start) c.sequenced-q.result c.allocated.result _ _ _ _
+    (few start) start.requires.function at-regs-at.regs-at.ensures (row c.before.before.before.before.before.before.before.before.before.before.before.before.before.before.before.before.before.before.before.before.before) (found c.before.before.before.before.before.before.before.before.before.before.before.before.before.before.before.before.before.before.before.before.before) _ (room start) c.sequenced-q.result c.allocated.result _ _ _ _
     c.sequenced-q.ensures c.allocated.ensures (alloc_told a.slots.now _ _ _ _ _ _ _ _ _ c.alloc.ensures c.in-Done.is
     (c.heap_of.ensures ∙ ap (λ q. heap_of q a.sizes) c.sequenced-q.ensures) c.bytes-charge.ensures c.new_object.ensures) c.write_row.ensures

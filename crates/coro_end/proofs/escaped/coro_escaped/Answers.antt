@@ -52,7 +52,7 @@ pub end_last-n-requires : goal.end_last-n-requires
 end_last-n-requires c =
     let start = start_of c.before.before.before.before.before.before.before.before.before.before in
     let a = start.args in
-    end_fits a.sizes a.m a.stack.now a.frames.now a.chain.now a.slots.now a.saved-stack.now a.saved-frames.now start.pre CoroState.Failed refl
+    end_fits a.sizes a.m a.stack.now a.frames.now a.chain.now a.slots.now a.saved-stack.now a.saved-frames.now start.requires CoroState.Failed refl
 
 pub returns : goal.returns
 returns c =

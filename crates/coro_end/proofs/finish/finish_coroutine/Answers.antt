@@ -21,7 +21,7 @@ start_of c = c.before.before.before.before
 pub give_back_row-requires : goal.give_back_row-requires
 give_back_row-requires c =
     let start = start_of c.before.before.before.before.before in
-    let h = start.pre.held in
+    let h = start.requires.held in
     free-fits start.args.sizes (rows start.args.slots.now start.args.saved_stack.now start.args.saved_frames.now plain h.beside)
     start.args.m h.beside.fuel start.args.v.0 h.world h.rep h.known c.in-At.i c.in-At.c
     (sym c.in-At.is ∙ c.coro.ensures)
@@ -29,7 +29,7 @@ give_back_row-requires c =
 pub mark_ended-requires : goal.mark_ended-requires
 mark_ended-requires c =
     let start = start_of c.before.before.before.before.before.before.before.before.before.before.before.before in
-    let h = start.pre.held in
+    let h = start.requires.held in
     slot-fits start.args.sizes (rows start.args.slots.now start.args.saved_stack.now start.args.saved_frames.now plain h.beside)
     start.args.m h.beside.fuel start.args.v.0 h.world h.rep h.known c.in-At.i c.in-At.c
     (sym c.in-At.is ∙ c.coro.ensures)
@@ -45,5 +45,5 @@ returns-in-At c =
     let start = start_of c.before.before.before.before.before.before.before.before.before.before.before.before.before.before.before in
     λ w b rep rowed. ends start.args.sizes (rows start.args.slots.now start.args.saved_stack.now start.args.saved_frames.now plain b)
     start.args.m b.fuel start.args.v.0 w rep rowed c.in-At.i c.in-At.c
-    (sym c.in-At.is ∙ c.coro.ensures) start.args.s start.args.res start.pre.ends _ _ _ c.mark_ended.ensures
+    (sym c.in-At.is ∙ c.coro.ensures) start.args.s start.args.res start.requires.ends _ _ _ c.mark_ended.ensures
     c.give_back_row.ensures

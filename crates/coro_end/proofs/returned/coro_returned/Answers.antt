@@ -35,7 +35,7 @@ pub end_last-n-requires : goal.end_last-n-requires
 end_last-n-requires c =
     let start = start_of c.before.before.before.before.before.before.before.before in
     let a = start.args in
-    end_fits a.sizes a.m a.stack.now a.frames.now a.chain.now a.slots.now a.saved-stack.now a.saved-frames.now start.pre CoroState.Returned refl
+    end_fits a.sizes a.m a.stack.now a.frames.now a.chain.now a.slots.now a.saved-stack.now a.saved-frames.now start.requires CoroState.Returned refl
 
 pub deliver_return-requires : goal.deliver_return-requires
 deliver_return-requires c =
@@ -43,7 +43,7 @@ deliver_return-requires c =
     let a = start.args in
     let f = c.end_last-n in
     let some : 1 ≤ a.m.active = omega (arith, c.if-m-eq0.false) in
-    return_fits a.sizes a.m a.stack.now a.frames.now a.chain.now a.slots.now a.saved-stack.now a.saved-frames.now start.pre
+    return_fits a.sizes a.m a.stack.now a.frames.now a.chain.now a.slots.now a.saved-stack.now a.saved-frames.now start.requires
     c.active_at-last.result some c.active_at-last.ensures
     f.new.chain f.new.slots f.new.saved_stack f.new.saved_frames f.result CoroState.Returned a.value f.ensures
 

@@ -30,9 +30,9 @@ start_of c = c.before.before.before.before.before.before.before.before.before.be
 pub arrive-step-requires : goal.arrive-step-requires
 arrive-step-requires c =
     let at-store-enter = store-enter-of c.before in let start = start_of at-store-enter in
-    let o = start.pre.ok in let u = store_pc start.args.pc o.world in
+    let o = start.requires.ok in let u = store_pc start.args.pc o.world in
     arrive-fits start.args.sizes _ at-store-enter.store-enter.result.machine _ start.args.v start.args.d u
-    at-store-enter.store-enter.result.answer (store-sounds start.args.pc o.world start.pre.narrow o.sound)
+    at-store-enter.store-enter.result.answer (store-sounds start.args.pc o.world start.requires.narrow o.sound)
     (at-store-enter.store-enter.ensures o.world o.beside o.rep o.sound)
 
 pub returns : goal.returns

@@ -64,19 +64,19 @@ none c = sym c.number.ensures ∙ c.if-number-ne0.false
 
 sum : (c : Else-number-ne0) →
     let start = start_of c.before.before.before in
-    Grows start.args.sizes (mem start start.pre.beside) start.args.m (slot c.before.before.before) (coro c.before.before.before)
+    Grows start.args.sizes (mem start start.requires.beside) start.args.m (slot c.before.before.before) (coro c.before.before.before)
 sum c =
     let start = start_of c.before.before.before in
-    ok-sums start.pre start.args.v.0 (found c.before.before.before) c.refusal-fault.ensures (none c)
+    ok-sums start.requires start.args.v.0 (found c.before.before.before) c.refusal-fault.ensures (none c)
 
 pub coro_at-c-requires : goal.coro_at-c-requires
 coro_at-c-requires c =
     let start = start-of-coro-place c.before.before.before.before in
     stands-words start.args.m.count start.args.slots.now start.args.v.0 c.in-At.i
-    (sym c.in-At.is ∙ c.coro_place.ensures) start.pre.rep.slots.within
+    (sym c.in-At.is ∙ c.coro_place.ensures) start.requires.rep.slots.within
 
 pub refusal-fault-requires : goal.refusal-fault-requires
-refusal-fault-requires c = let start = start_of c.before in ok-before start.pre start.args.v.0 (found c.before)
+refusal-fault-requires c = let start = start_of c.before in ok-before start.requires start.args.v.0 (found c.before)
 
 pub returns-then-number-ne0 : goal.returns-then-number-ne0
 returns-then-number-ne0 c =
@@ -87,7 +87,7 @@ returns-then-number-ne0 c =
 pub move_in-requires : goal.move_in-requires
 move_in-requires c =
     let start = start_of c.before.before.before.before.before.before.before.before in
-    ok-moves start.pre start.args.v.0 (found c.before.before.before.before.before.before.before.before) c.refusal-fault.ensures (none c.before.before.before.before.before) (omega (arith, start.good))
+    ok-moves start.requires start.args.v.0 (found c.before.before.before.before.before.before.before.before) c.refusal-fault.ensures (none c.before.before.before.before.before) (omega (arith, start.good))
 
 pub push_active-requires : goal.push_active-requires
 push_active-requires c = (sum (if1-of c.before)).chain

@@ -55,14 +55,14 @@ pub coro_at-c-requires : goal.coro_at-c-requires
 coro_at-c-requires c =
     let start = start_of c.before.before.before.before.before.before.before.before.before in
     stands-words start.args.m.count start.args.slots.now c.active_at-a.result.coro c.in-At.i
-    (sym c.in-At.is ∙ c.coro_place.ensures) start.pre.ok.rep.slots.within
+    (sym c.in-At.is ∙ c.coro_place.ensures) start.requires.ok.rep.slots.within
 
 pub suspend_found-requires : goal.suspend_found-requires
 suspend_found-requires c =
     let start = start_of c.before.before.before.before.before.before.before.before.before.before.before.before.before.before.before in
     record {
-      ok = start.pre.ok;
-      state = start.pre.state;
+      ok = start.requires.ok;
+      state = start.requires.state;
       some = some c.before.before.before.before.before.before.before.before.before.before.before.before.before.before.before;
       top = c.active_at-a.ensures;
       floor = c.if-m-a.false;

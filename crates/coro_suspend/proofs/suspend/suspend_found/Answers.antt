@@ -46,17 +46,17 @@ pub growth-grow-requires : goal.growth-grow-requires
 growth-grow-requires c = let k = found_before (start_of c.before.before.before).requires c.base_at-base.ensures in (k.regs, k.frames, k.cost)
 
 pub move_out-requires : goal.move_out-requires
-move_out-requires c = let read = read_of c.before in found-leaves (start_of read).pre read.base-at.ensures
+move_out-requires c = let read = read_of c.before in found-leaves (start_of read).requires read.base-at.ensures
 
 pub pop_active-requires : goal.pop_active-requires
 pop_active-requires c =
-    let read = read_of c.before.before.before.before.before.before.before.before.before.before.before in let p = (start_of read).pre in
+    let read = read_of c.before.before.before.before.before.before.before.before.before.before.before in let p = (start_of read).requires in
     (p.some, (found_before p read.base-at.ensures).chain)
 
 pub put_sleep-requires : goal.put_sleep-requires
 put_sleep-requires c =
     let read = read_of c.before.before.before.before.before.before.before.before.before.before.before.before.before.before.before.before in
-    (found_before (start_of read).pre read.base-at.ensures).slot
+    (found_before (start_of read).requires read.base-at.ensures).slot
 
 pub shrunk-requires : goal.shrunk-requires
 shrunk-requires c = (start_of (read_of (move-out-of c.before).before)).requires.some
@@ -65,7 +65,7 @@ pub returns-in-OutOfMemory : goal.returns-in-OutOfMemory
 returns-in-OutOfMemory c =
     let start = start_of c.before.before.before.before.before.before.before in
     λ w b rep snd. spent start.args.sizes (mem start b) start.args.m b.fuel start.args.state start.args.dst start.args.payload
-    start.args.keys w rep start.args.a start.pre.some start.pre.top start.pre.floor start.args.i start.args.c start.pre.coro
+    start.args.keys w rep start.args.a start.requires.some start.requires.top start.requires.floor start.args.i start.args.c start.requires.coro
     c.base_at-base.result c.base_at-base.ensures (sym c.in-OutOfMemory.is ∙ c.charge.ensures ∙ ap (charge_of (heap_of start.args.m start.args.sizes)) c.growth-grow.ensures)
 
 pub shape_of-stack : goal.shape_of-stack
@@ -90,8 +90,8 @@ pub returns-in-Done : goal.returns-in-Done
 returns-in-Done c =
     let start = start_of c.before.before.before.before.before.before.before.before.before.before.before.before.before.before.before.before.before.before.before.before.before.before.before.before.before.before.before.before.before.before.before.before in
     λ w b rep snd. accepted start.args.sizes (mem start b) start.args.m b.fuel start.args.state start.args.dst start.args.payload
-    start.args.keys w rep start.args.a start.pre.some start.pre.top start.pre.floor start.args.i start.args.c start.pre.coro
-    c.base_at-base.result c.base_at-base.ensures snd _ _ _ _ _ _ c.in-Done.g c.suspended-d.result c.shrunk.result c.event_of-event.result start.pre.state
+    start.args.keys w rep start.args.a start.requires.some start.requires.top start.requires.floor start.args.i start.args.c start.requires.coro
+    c.base_at-base.result c.base_at-base.ensures snd _ _ _ _ _ _ c.in-Done.g c.suspended-d.result c.shrunk.result c.event_of-event.result start.requires.state
     (sym c.in-Done.is ∙ c.charge.ensures ∙ ap (charge_of (heap_of start.args.m start.args.sizes)) c.growth-grow.ensures)
     c.move_out.ensures c.pop_active.ensures c.suspended-d.ensures c.put_sleep.ensures
     c.event_of-event.ensures c.shrunk.ensures

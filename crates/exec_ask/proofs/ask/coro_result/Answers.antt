@@ -29,7 +29,7 @@ pub state_at-state-requires : goal.state_at-state-requires
 state_at-state-requires c =
     let start = start_of c.before.before.before.before.before in
     stands-words start.args.m.count start.args.slots.now c.reg-v.result c.in-At.i
-    (sym c.in-At.is ∙ c.coro_place.ensures) start.pre.table
+    (sym c.in-At.is ∙ c.coro_place.ensures) start.requires.table
 
 pub returns-then-not-is_returned : goal.returns-then-not-is_returned
 returns-then-not-is_returned c =
@@ -46,7 +46,7 @@ pub result_at-result-requires : goal.result_at-result-requires
 result_at-result-requires c =
     let start = start_of c.before.before.before.before.before.before.before.before in
     stands-words start.args.m.count start.args.slots.now c.reg-v.result c.in-At.i
-    (sym c.in-At.is ∙ c.coro_place.ensures) start.pre.table
+    (sym c.in-At.is ∙ c.coro_place.ensures) start.requires.table
 
 pub returns-in-Not : goal.returns-in-Not
 returns-in-Not c =

@@ -29,7 +29,7 @@ start_of c = c.before.before.before.before.before.before.before.before.before.be
 
 pub close_entered-step-requires : goal.close_entered-step-requires
 close_entered-step-requires c =
-    let at-store-enter = store-enter-of c.before in let o = (start_of at-store-enter).pre.ok in
+    let at-store-enter = store-enter-of c.before in let o = (start_of at-store-enter).requires.ok in
     let did = at-store-enter.store-enter.ensures o.world o.beside o.rep o.sound in
     did.world.slots.within
 

@@ -40,7 +40,7 @@ returns-then-is_running c =
 
 pub end_created-requires : goal.end_created-requires
 end_created-requires c =
-    let start = start_of c.before.before.before.before.before.before.before in let o = start.pre.entry.ok in
+    let start = start_of c.before.before.before.before.before.before.before in let o = start.requires.entry.ok in
     finish-asks o.world o.sound start.args.sizes (rows start.args.slots.now start.args.saved_stack.now start.args.saved_frames.now plain) start.args.m
     (record { words = mem start o.beside; fuel = o.beside.fuel }) CoroState.Returned refl o.rep
 

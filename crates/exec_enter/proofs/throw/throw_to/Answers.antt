@@ -28,7 +28,7 @@ mem c b = lent c.args.stack.now c.args.frames.now c.args.chain.now c.args.slots.
 pub finish_coroutine-requires : goal.finish_coroutine-requires
 finish_coroutine-requires c =
     let start = start_of c.before.before.before.before.before in
-    let o = start.pre.ok in
+    let o = start.requires.ok in
     finish-asks o.world o.sound start.args.sizes (rows start.args.slots.now start.args.saved_stack.now start.args.saved_frames.now plain) start.args.m
     (record { words = mem start o.beside; fuel = o.beside.fuel }) CoroState.Failed refl o.rep
 

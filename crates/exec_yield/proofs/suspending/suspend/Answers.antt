@@ -48,26 +48,26 @@ mem c b = lent c.args.stack.now c.args.frames.now c.args.chain.now c.args.slots.
 pub store_pc-requires : goal.store_pc-requires
 store_pc-requires c =
     let start = start_of c.before in
-    record { some = framed start.pre.run.ok.rep start.pre.run.ok.sound start.pre.run.running; within = start.pre.run.ok.rep.frames.within }
+    record { some = framed start.requires.run.ok.rep start.requires.run.ok.sound start.requires.run.running; within = start.requires.run.ok.rep.frames.within }
 
 pub coro_suspend-did-requires : goal.coro_suspend-did-requires
 coro_suspend-did-requires c =
     let at-store-pc = store-pc-of c in let start = start_of at-store-pc.before in
-    let o = start.pre.run.ok in record {
+    let o = start.requires.run.ok in record {
       ok = stored_ok start.args.sizes (only start.args.m) start.args.stack.now start.args.frames.now start.args.chain.now
           start.args.slots.now start.args.saved_stack.now start.args.saved_frames.now at-store-pc.store-pc.last.0 start.args.pc
-          at-store-pc.store-pc.kept.0 start.pre.run.narrow o
+          at-store-pc.store-pc.kept.0 start.requires.run.narrow o
           (at-store-pc.store-pc.ensures start.args.sizes o.world (record { words = mem start o.beside; fuel = o.beside.fuel }) o.rep);
-      state = start.pre.state;
+      state = start.requires.state;
     }
 
 pub deliver_all-requires : goal.deliver_all-requires
 deliver_all-requires c =
     let at-coro-suspend = coro-suspend-of c.before in let at-store-pc = store-pc-of at-coro-suspend.before in
     let start = start_of at-store-pc.before in
-    let o = start.pre.run.ok in
+    let o = start.requires.run.ok in
     let u = store_pc start.args.pc o.world in
-    let k = store-sounds start.args.pc o.world start.pre.run.narrow o.sound in
+    let k = store-sounds start.args.pc o.world start.requires.run.narrow o.sound in
     drives start.args.sizes _ _ _ start.args.state start.args.dst start.args.payload start.args.keys u k _
     (at-coro-suspend.coro-suspend.ensures u o.beside
     (at-store-pc.store-pc.ensures start.args.sizes o.world (record { words = mem start o.beside; fuel = o.beside.fuel }) o.rep) k)
@@ -84,7 +84,7 @@ returns c =
     λ w b rep snd.
     let f = start.args.fuel in
     let u = store_pc start.args.pc w in
-    let k = store-sounds start.args.pc w start.pre.run.narrow snd in
+    let k = store-sounds start.args.pc w start.requires.run.narrow snd in
     let d = at-coro-suspend.coro-suspend.ensures u (record { words = b.words; fuel = f })
     (at-store-pc.store-pc.ensures start.args.sizes w (record { words = mem start b; fuel = f }) rep) k in
     suspended start.args.sizes _ _ _ w start.args.pc start.args.state start.args.dst start.args.payload start.args.keys _ _ d.answer

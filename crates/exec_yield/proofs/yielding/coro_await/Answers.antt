@@ -31,7 +31,7 @@ returns-then-m-eq0 c =
 pub suspend-requires : goal.suspend-requires
 suspend-requires c =
     let start = start_of c.before.before.before.before.before.before.before.before in
-    record { run = record { ok = start.pre.ok; running = some-active start.args.m.active c.if-m-eq0.false; narrow = start.pre.narrow }; state = refl }
+    record { run = record { ok = start.requires.ok; running = some-active start.args.m.active c.if-m-eq0.false; narrow = start.requires.narrow }; state = refl }
 
 pub returns : goal.returns
 returns c =

@@ -38,25 +38,25 @@ overflow_sub-m c =
 pub active_at-a-requires : goal.active_at-a-requires
 active_at-a-requires c =
     let start = start_of c.before.before.before in
-    let h = some-active start.args.m.active c.if-m-eq0.false in let k = start.pre.ok.rep.chain.within in omega arith
+    let h = some-active start.args.m.active c.if-m-eq0.false in let k = start.requires.ok.rep.chain.within in omega arith
 
 pub largest_in-largest-requires : goal.largest_in-largest-requires
 largest_in-largest-requires c =
     let start = start_of c.before.before.before.before in
-    start.pre.ok.rep.slots.within
+    start.requires.ok.rep.slots.within
 
 pub auto_key-did-requires : goal.auto_key-did-requires
 auto_key-did-requires c =
     let start = start_of c.before.before.before.before.before.before in
-    heap-room start.pre.ok.rep start.pre.ok.sound start.pre.ok.room
+    heap-room start.requires.ok.rep start.requires.ok.sound start.requires.ok.room
 
 pub yield_key-requires : goal.yield_key-requires
 yield_key-requires c =
     let start = start_of c.before.before.before.before.before.before.before.before.before.before.before.before.before.before.before in
-    let o = start.pre.ok in
+    let o = start.requires.ok in
     key-run start.args.sizes start.args.m _ start.args.stack.now start.args.frames.now start.args.chain.now start.args.slots.now
     start.args.saved_stack.now start.args.saved_frames.now _ c.largest_in-largest.result start.args.pc o c.auto_key-did.auto.slots
-    (some-active start.args.m.active c.if-m-eq0.false) start.pre.narrow
+    (some-active start.args.m.active c.if-m-eq0.false) start.requires.narrow
     (c.auto_key-did.ensures o.world (record { words = mem start o.beside; fuel = o.beside.fuel }) o.rep o.sound).world
 
 pub returns : goal.returns

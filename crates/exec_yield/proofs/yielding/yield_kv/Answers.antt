@@ -32,17 +32,17 @@ returns-then-m-eq0 c =
 pub active_at-a-requires : goal.active_at-a-requires
 active_at-a-requires c =
     let start = start_of c.before.before.before.before.before in
-    let h = some-active start.args.m.active c.if-m-eq0.false in let k = start.pre.plain.ok.rep.chain.within in omega arith
+    let h = some-active start.args.m.active c.if-m-eq0.false in let k = start.requires.plain.ok.rep.chain.within in omega arith
 
 pub keyed-keys-requires : goal.keyed-keys-requires
 keyed-keys-requires c =
     let start = start_of c.before.before.before.before.before.before in
-    start.pre.plain.ok.rep.slots.within
+    start.requires.plain.ok.rep.slots.within
 
 pub suspend-requires : goal.suspend-requires
 suspend-requires c =
     let start = start_of c.before.before.before.before.before.before.before.before.before.before.before.before in
-    record { run = record { ok = start.pre.plain.ok; running = some-active start.args.m.active c.if-m-eq0.false; narrow = start.pre.plain.narrow }; state = refl }
+    record { run = record { ok = start.requires.plain.ok; running = some-active start.args.m.active c.if-m-eq0.false; narrow = start.requires.plain.narrow }; state = refl }
 
 pub returns : goal.returns
 returns c =

@@ -63,8 +63,8 @@ loop-i-init c =
 pub one-requires : goal.one-requires
 one-requires c =
     let start = start_of c.before.before.before.before.before.before.before.before.before.before.before.before.before in
-    let t = c.loop-i-test.true in let r = start.pre.room in let k = c.loop-i.invariant.along.long in
-    record { put = record { sound = c.loop-i.invariant.sound; room = omega (arith, t, r, k) }; call = in-calls start.args.calls.now c.loop-i.i start.args.n start.pre.calls t }
+    let t = c.loop-i-test.true in let r = start.requires.room in let k = c.loop-i.invariant.along.long in
+    record { put = record { sound = c.loop-i.invariant.sound; room = omega (arith, t, r, k) }; call = in-calls start.args.calls.now c.loop-i.i start.args.n start.requires.calls t }
 
 pub overflow_add-i : goal.overflow_add-i
 overflow_add-i c = let test = test_of (one_of c.before) in let t = test.loop-test.taken in omega (arith, t, (start_of test.before).good)
@@ -75,7 +75,7 @@ loop-i-smaller c = let t = (test_of (one_of c.before)).loop-test.taken in omega 
 pub loop-i-preserved : goal.loop-i-preserved
 loop-i-preserved c =
     let did = one_of c.before in let test = test_of did in let loop = test.before in let start = start_of loop in let a = start.args in let k = did.one.kept in let q = k.1.1.1.1 in
-    going_more (at-start start) a.calls.now a.answers.now a.n (at-loop loop) loop.loop.answers loop.loop.i loop.loop.inv test.loop-test.taken start.pre.room
+    going_more (at-start start) a.calls.now a.answers.now a.n (at-loop loop) loop.loop.answers loop.loop.i loop.loop.inv test.loop-test.taken start.requires.room
     (left_by did) _ did.one.ensures
     (record { stack = k.0; frames = k.1.0; chain = k.1.1.0; slots = k.1.1.1.0; saved_stack = q.0; saved_frames = q.1.0; ready = q.1.1.0; finalize = q.1.1.1.0; setup = refl })
     refl q.1.1.1.1.1.0 q.1.1.1.1.1.1.0 q.1.1.1.1.1.1.1.1.0

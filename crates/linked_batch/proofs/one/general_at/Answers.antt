@@ -70,5 +70,5 @@ returns c =
     let start = at-kept.before.before.before.before.before.before.before.before.before.before.before.before.before.before.before.before.before.before.before.before.before.before.before.before.before in
     let a = start.args in
     let w = start.fits in
-    kept-one (of start) start.pre.sound (six a.n a.a a.b a.c a.d a.e)
-    (all_words a.n a.a a.b a.c a.d a.e w.n.fits w.a.fits w.b.fits w.c.fits w.d.fits w.e.fits) a.answers.now a.i start.pre.room _ _ _ at-kept.bvm-call-unchecked.ensures
+    kept-one (of start) start.requires.sound (six a.n a.a a.b a.c a.d a.e)
+    (all_words a.n a.a a.b a.c a.d a.e w.n.fits w.a.fits w.b.fits w.c.fits w.d.fits w.e.fits) a.answers.now a.i start.requires.room _ _ _ at-kept.bvm-call-unchecked.ensures

@@ -58,7 +58,7 @@ may_enter-requires c = enters-fit (of c.before.before.before.before.before.befor
 pub resume_at-requires : goal.resume_at-requires
 resume_at-requires c =
     let start = start_of c.before.before.before.before.before.before.before.before.before.before.before.before in
-    record { held = holds (of start) start.pre.put.sound start.args.pc start.pre.narrow; enterable = c.may_enter.ensures.at _ _ c.in-At.is }
+    record { held = holds (of start) start.requires.put.sound start.args.pc start.requires.narrow; enterable = c.may_enter.ensures.at _ _ c.in-At.is }
 
 pub goes_on_at-requires : goal.goes_on_at-requires
 goes_on_at-requires c = (done-of c.before.before.before.before.before.before.before.before.before.before.before.before.before.before.before.before.before.before).requires.put.room
@@ -69,10 +69,10 @@ general_at-requires c = (start_of c.before.before.before.before.before.before.be
 pub returns-in-At : goal.returns-in-At
 returns-in-At c =
     let start = start_of c.before.before.before.before.before.before.before.before.before.before.before.before.before.before.before.before.before.before.before.before.before.before.before.before.before.before.before.before.before.before.before.before.before in let a = start.args in
-    let sure = start.pre.put.sound in let may = c.may_enter.ensures.at _ _ c.in-At.is in
+    let sure = start.requires.put.sound in let may = c.may_enter.ensures.at _ _ c.in-At.is in
     let k = c.resume_at.auto in let s = c.resume_at.new in let w = start.fits in
     let short = low (of start) sure in let op = Op.Resume a.pc a.dst a.c a.src in
-    switch-one (of start) sure op (resume-typed a.pc a.dst a.c a.src start.pre.narrow
+    switch-one (of start) sure op (resume-typed a.pc a.dst a.c a.src start.requires.narrow
     (omega (arith, short, may.dst-in)) (omega (arith, short, may.coro-in)) (omega (arith, short, may.src-in)))
     (all_words 6 a.pc a.dst a.c a.src 0 (omega arith) w.pc.fits w.dst.fits w.c.fits w.src.fits (omega arith)) a.answers.now _ a.i _
     (went-in (of start) sure blank op s.0 s.1.0 s.1.1.0 s.1.1.1.0 s.1.1.1.1.0

@@ -58,7 +58,7 @@ may_leave-requires c = leaves-fit (of c.before.before.before.before.before.befor
 pub yield_at-requires : goal.yield_at-requires
 yield_at-requires c =
     let start = start_of c.before.before.before.before.before.before.before.before.before.before.before.before in
-    record { held = holds (of start) start.pre.put.sound start.args.pc start.pre.narrow; leavable = c.may_leave.ensures.at _ _ _ _ c.in-At.is }
+    record { held = holds (of start) start.requires.put.sound start.args.pc start.requires.narrow; leavable = c.may_leave.ensures.at _ _ _ _ c.in-At.is }
 
 pub goes_on_at-requires : goal.goes_on_at-requires
 goes_on_at-requires c = (done-of c.before.before.before.before.before.before.before.before.before.before.before.before.before.before.before.before.before.before).requires.put.room
@@ -69,10 +69,10 @@ general_at-requires c = (start_of c.before.before.before.before.before.before.be
 pub returns-in-At : goal.returns-in-At
 returns-in-At c =
     let start = start_of c.before.before.before.before.before.before.before.before.before.before.before.before.before.before.before.before.before.before.before.before.before.before.before.before.before.before.before.before.before.before.before.before.before in let a = start.args in
-    let sure = start.pre.put.sound in let may = c.may_leave.ensures.at _ _ _ _ c.in-At.is in
+    let sure = start.requires.put.sound in let may = c.may_leave.ensures.at _ _ _ _ c.in-At.is in
     let k = c.yield_at.auto in let s = c.yield_at.new in let w = start.fits in
     let short = low (of start) sure in let op = Op.Yield a.pc a.dst a.src in
-    switch-one (of start) sure op (yield-typed a.pc a.dst a.src start.pre.narrow (omega (arith, short, may.dst-in)) (omega (arith, short, may.src-in)))
+    switch-one (of start) sure op (yield-typed a.pc a.dst a.src start.requires.narrow (omega (arith, short, may.dst-in)) (omega (arith, short, may.src-in)))
     (all_words 3 a.pc a.dst a.src 0 0 (omega arith) w.pc.fits w.dst.fits w.src.fits (omega arith) (omega arith)) a.answers.now _ a.i _
     (went-in (of start) sure blank op s.0 s.1.0 s.1.1.0 s.1.1.1.0 s.1.1.1.1.0
     s.1.1.1.1.1.0 s.1.1.1.1.1.1.0 s.1.1.1.1.1.1.1.0 (splice blank 0 (answer_words goes_on))

@@ -111,7 +111,7 @@ put_machine-requires c = (start_of (set-up-of c.before.before.before.before.befo
 pub put_sizes-requires : goal.put_sizes-requires
 put_sizes-requires c =
     let start = start_of (set-up-of c.before.before.before.before.before.before.before.before.before.before) in
-    let k = c.put_machine.auto.ws in let h = start.pre.machine in omega arith
+    let k = c.put_machine.auto.ws in let h = start.requires.machine in omega arith
 
 pub put_fuel-requires : goal.put_fuel-requires
 put_fuel-requires c = (start_of (set-up-of c.before.before.before.before.before.before.before.before.before.before.before.before.before.before)).requires.fuel

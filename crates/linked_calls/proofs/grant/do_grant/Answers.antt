@@ -70,7 +70,7 @@ pub returns : goal.returns
 returns c =
     let start = start_of c.before.before.before.before.before.before.before.before.before.before.before.before.before in
     let a = start.args in
-    grant-done (of start) a.amount a.answer.now start.pre.room a.ok start.pre.known
+    grant-done (of start) a.amount a.answer.now start.requires.room a.ok start.requires.known
     c.if-not-ok.false
     c.machine_of-m.result c.fuel_of-f.result c.granted-did.result c.machine_of-m.ensures c.fuel_of-f.ensures
     c.granted-did.ensures _ _ c.tell-2.result c.put_fuel.ensures c.tell-2.ensures.0 c.tell-2.ensures.1

@@ -75,7 +75,7 @@ left_by c = nine c.run_list-did.new.stack c.run_list-did.new.frames c.run_list-d
 pub returns-then-answers-n : goal.returns-then-answers-n
 returns-then-answers-n c =
     let start = start_of c.before.before.before in let a = start.args in
-    run_short (of start) a.calls.now a.answers.now c.count-n.result c.count-n.ensures c.if-answers-n.true a.ok start.pre c.short.result c.short.ensures
+    run_short (of start) a.calls.now a.answers.now c.count-n.result c.count-n.ensures c.if-answers-n.true a.ok start.requires c.short.result c.short.ensures
 
 pub refuse_list-requires : goal.refuse_list-requires
 refuse_list-requires c = room c.before.before.before
@@ -86,7 +86,7 @@ shape_of-answers-then-not-ok c = c.refuse_list.auto.answers
 pub returns-then-not-ok : goal.returns-then-not-ok
 returns-then-not-ok c =
     let start = start_of c.before.before.before.before.before.before.before in let a = start.args in
-    run-refused (of start) a.calls.now a.answers.now c.count-n.result c.count-n.ensures (room c.before.before.before.before.before.before) a.ok start.pre
+    run-refused (of start) a.calls.now a.answers.now c.count-n.result c.count-n.ensures (room c.before.before.before.before.before.before) a.ok start.requires
     c.if-not-ok.true _ c.refuse_list.ensures
 
 pub machine_of-m-requires : goal.machine_of-m-requires
@@ -153,6 +153,6 @@ returns c =
     let did = run-list-of c.before in let at_fuel = did.before.before.before.before.before.before.before.before.before.before in let at-machine = at_fuel.before.before.before.before in
     let at-if = else-of did in let at_count = count_of at-if in let start = start_of at_count in let a = start.args in let r = did.run-list.result in
     let m = at-machine.machine-of.ensures in let f = at_fuel.fuel-of.ensures in
-    run-done (of start) a.calls.now a.answers.now at_count.count.result at_count.count.ensures (room at-if.before) a.ok start.pre
+    run-done (of start) a.calls.now a.answers.now at_count.count.result at_count.count.ensures (room at-if.before) a.ok start.requires
     (not-false _ at-if.if2.left) (state (mem start) at-machine.machine-of.result at_fuel.fuel-of.result) (state (left_by did) r.machine r.fuel) (λ i. state (mem start) (m i) (f i)) _ _ _
     did.run-list.ensures c.put_machine.ensures c.put_fuel.ensures

@@ -38,7 +38,7 @@ told : (c : After-seen-part) → let m = c.machine_of-m.result in let xs = c.see
     (length xs ≤ m.height) × Spans (of (start_of c.before.before)) (record { start = m.height - length xs; end = m.height })
 told c =
     let start = start_of c.before.before in
-    spans (of start) start.pre c.machine_of-m.result c.fuel_of-f.result c.machine_of-m.ensures c.fuel_of-f.ensures c.seen-part.result.now c.seen-part.ensures
+    spans (of start) start.requires c.machine_of-m.result c.fuel_of-f.result c.machine_of-m.ensures c.fuel_of-f.ensures c.seen-part.result.now c.seen-part.ensures
 
 pub machine_of-m-requires : goal.machine_of-m-requires
 machine_of-m-requires c = (wide c.before.before.before.before.before.before.before.before.before.before.before.before).0
@@ -49,7 +49,7 @@ fuel_of-f-requires c = (wide (start_of c.before)).1
 pub seen-part-requires : goal.seen-part-requires
 seen-part-requires c =
     let start = start_of c.before.before in
-    may-see (of start) start.pre c.machine_of-m.result c.fuel_of-f.result c.machine_of-m.ensures c.fuel_of-f.ensures
+    may-see (of start) start.requires c.machine_of-m.result c.fuel_of-f.result c.machine_of-m.ensures c.fuel_of-f.ensures
 
 pub overflow_sub-result : goal.overflow_sub-result
 overflow_sub-result c = (told c.before.before).0

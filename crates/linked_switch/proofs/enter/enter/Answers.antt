@@ -90,7 +90,7 @@ pub overflow_add-height : goal.overflow_add-height
 overflow_add-height c =
     let start = begun c.before.before.before.before.before.before.before.before.before.before.before.before.before.before in
     let n = (read_of c.before.before.before.before.before.before.before.before.before.before.before.before.before.before).before.before.before.before.regs-at.ensures in
-    let h = (fit (at-fits start.pre) (omega (arith, start.good))).on-stack in record { fits = omega (arith, h, n, start.good) }
+    let h = (fit (at-fits start.requires) (omega (arith, start.good))).on-stack in record { fits = omega (arith, h, n, start.good) }
 
 pub bounds-machine-1-3 : goal.bounds-machine-1-3
 bounds-machine-1-3 c = let h = (begun c.before.before.before.before.before.before.before.before.before.before.before.before.before.before.before).requires.words in omega (arith, h)
@@ -99,7 +99,7 @@ pub overflow_add-depth : goal.overflow_add-depth
 overflow_add-depth c =
     let start = begun c.before.before.before.before.before.before.before.before.before.before.before.before.before.before.before in
     let n = (read_of c.before.before.before.before.before.before.before.before.before.before.before.before.before.before.before).before.before.frames-at.ensures in
-    let h = (fit (at-fits start.pre) (omega (arith, start.good))).entering.on-frames in record { fits = omega (arith, h, n, start.good) }
+    let h = (fit (at-fits start.requires) (omega (arith, start.good))).entering.on-frames in record { fits = omega (arith, h, n, start.good) }
 
 pub bounds-machine-2 : goal.bounds-machine-2
 bounds-machine-2 c = let h = (begun c.before.before.before.before.before.before.before.before.before.before.before.before.before.before.before.before).requires.words in omega (arith, h)
@@ -107,7 +107,7 @@ bounds-machine-2 c = let h = (begun c.before.before.before.before.before.before.
 pub overflow_add-active : goal.overflow_add-active
 overflow_add-active c =
     let start = begun c.before.before.before.before.before.before.before.before.before.before.before.before.before.before.before.before in
-    let h = (sum (at-fits start.pre)).chain in record { fits = omega (arith, h, start.good) }
+    let h = (sum (at-fits start.requires)).chain in record { fits = omega (arith, h, start.good) }
 
 pub put_numbers-requires : goal.put_numbers-requires
 put_numbers-requires c = (begun c.before.before.before.before.before.before.before.before.before.before.before.before.before.before.before.before.before).requires.words
@@ -115,7 +115,7 @@ put_numbers-requires c = (begun c.before.before.before.before.before.before.befo
 pub send-requires : goal.send-requires
 send-requires c =
     let at-enter-at = entry_of c.before.before.before.before.before.before.before in let at-waiting-at = read_of at-enter-at in let start = begun at-enter-at in let s = (pc-of at-enter-at).store-pc in
-    enter-sends start.pre s.last.0 s.ensures start.args.dst (left-words at-enter-at) at-enter-at.enter-at.ensures _ _ _
+    enter-sends start.requires s.last.0 s.ensures start.args.dst (left-words at-enter-at) at-enter-at.enter-at.ensures _ _ _
     at-waiting-at.before.before.before.before.regs-at.ensures at-waiting-at.before.before.frames-at.ensures at-waiting-at.waiting-at.ensures (sym (new c.before.before.before.before) ∙ c.if-not-is_created.true)
 
 pub shape_of-frames-then-not-is_created : goal.shape_of-frames-then-not-is_created
@@ -129,7 +129,7 @@ returns-then-not-is_created c =
     let at-waiting-at = read_of at-enter-at in let at-store-pc = pc-of at-enter-at in
     let start = start_of at-store-pc in let s = at-store-pc.store-pc in (
       told c.before.before.before.before.before.before.before.before.before.before.before.before,
-      λ w b rep snd. enter-sent start.pre s.last.0 s.ensures start.args.dst (left-words at-enter-at) at-enter-at.enter-at.ensures _ _ _ _
+      λ w b rep snd. enter-sent start.requires s.last.0 s.ensures start.args.dst (left-words at-enter-at) at-enter-at.enter-at.ensures _ _ _ _
           at-store-pc.before.before.before.reg.ensures at-waiting-at.before.before.before.before.regs-at.ensures at-waiting-at.before.before.frames-at.ensures at-waiting-at.waiting-at.ensures
           (sym (new c.before.before.before.before.before.before.before.before.before) ∙ c.if-not-is_created.true) w b _ _ c.send.ensures rep snd,
     )
@@ -141,6 +141,6 @@ pub returns-else-not-is_created : goal.returns-else-not-is_created
 returns-else-not-is_created c =
     let at-enter-at = entry_of c.before.before.before.before.before in let start = begun at-enter-at in let s = (pc-of at-enter-at).store-pc in (
       told c.before.before.before.before.before,
-      enter-fresh start.pre s.last.0 s.ensures start.args.dst (left-words at-enter-at) at-enter-at.enter-at.ensures
+      enter-fresh start.requires s.last.0 s.ensures start.args.dst (left-words at-enter-at) at-enter-at.enter-at.ensures
           (sym (new c.before.before) ∙ c.if-not-is_created.false),
     )

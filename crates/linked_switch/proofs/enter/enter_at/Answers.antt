@@ -39,6 +39,6 @@ put_entered-requires c = (sum (start_of c.before.before.before.before.before.bef
 pub returns : goal.returns
 returns c =
     let start = start_of c.before.before.before.before.before.before.before.before.before.before.before.before.before.before.before.before.before.before.before in let a = start.args in
-    λ w b rep snd. accepted (sizes_in a.machine.now) (mem start b) (machine_in a.machine.now) b.fuel a.v w rep a.i (record_at a.slots.now a.i) (found start.pre) snd Fault.None
-    start.pre.may.fits refl (Driver.Resume a.dst) _ _ _ _ _ _ _ _ c.move_in.ensures
+    λ w b rep snd. accepted (sizes_in a.machine.now) (mem start b) (machine_in a.machine.now) b.fuel a.v w rep a.i (record_at a.slots.now a.i) (found start.requires) snd Fault.None
+    start.requires.may.fits refl (Driver.Resume a.dst) _ _ _ _ _ _ _ _ c.move_in.ensures
     c.push_active.ensures c.put_entered.ensures refl refl

@@ -68,7 +68,7 @@ found c = sym c.in-At.is ∙ named c.before.before
 slot : (c : In-At-2) → SlotFits (start_of c.before.before).args.slots.now c.in-At.i
 slot c =
     let start = start_of c.before.before in let a = start.args in
-    stands-words (machine_in a.machine.now).count a.slots.now (get_or a.stack.now (top_in a.frames.now a.machine.now + a.c) 0) c.in-At.i (found c) start.pre.in-slots
+    stands-words (machine_in a.machine.now).count a.slots.now (get_or a.stack.now (top_in a.frames.now a.machine.now + a.c) 0) c.in-At.i (found c) start.requires.in-slots
 
 -- what its state tells
 state-of : (c : After-is_resumable) → c.is_resumable.result ≡ is_resumable (record_at (start_of c.before.before.before.before.before).args.slots.now c.in-At.i).state
@@ -121,7 +121,7 @@ returns-else-machine-regs_at c =
     let at-if6 = if6-of c.before.before.before.before.before.before.before.before.before.before.before.before.before.before.before.before in let at-if3 = if3-of at-if6 in let at-if2 = if2-of at-if3 in
     let start = start_of c.before.before.before.before.before.before.before.before.before.before.before.before.before.before.before.before in let ms = start.args.machine.now in let k = record_at start.args.slots.now c.in-At.i in
     let low = at-if3.before.before.base-at.ensures in let above = at-if3.if3.left in let in_c = at-if6.before.if5.left in
-    let some = some-active _ at-if2.before.if1.left in let deep = start.pre.deep in let high = start.pre.high in
+    let some = some-active _ at-if2.before.if1.left in let deep = start.requires.deep in let high = start.requires.high in
     let state = sym (state-of c.before.before.before.before.before.before.before.before.before.before.before) ∙ c.if-not-is_resumable.false in
     let n = c.frames_at-deep.ensures in let r = c.regs_at.ensures in
     let saved : k.frames ≡ 0 → ⊥ = λ z. c.if-deep-eq0.false (n ∙ z) in
@@ -133,7 +133,7 @@ returns-else-machine-regs_at c =
       dst-in = omega (arith, low, above, at-if6.before.before.if4.left);
       coro-in = omega (arith, low, above, in_c);
       src-in = omega (arith, low, above, at-if6.if6.left);
-      is = gets _ _ _ _ _ (record { some = some; on-frames = start.pre.on-frames; below = omega (arith, low, above, in_c); on-stack = start.pre.on-stack }) _ low;
+      is = gets _ _ _ _ _ (record { some = some; on-frames = start.requires.on-frames; below = omega (arith, low, above, in_c); on-stack = start.requires.on-stack }) _ low;
       may =
           record {
             found = sym c.in-At.is ∙ c.coro_place.ensures;

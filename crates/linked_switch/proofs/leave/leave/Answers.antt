@@ -75,12 +75,12 @@ active_at-a-requires c = chained (start_of c.before.before.before.before)
 pub base_at-base-requires : goal.base_at-base-requires
 base_at-base-requires c =
     let at-store-pc = pc-of c.before in let start = start_of at-store-pc in let k = at-store-pc.store-pc.kept.0 in
-    let f = start.pre.may.floor in let h = start.pre.sent.on-frames in let e = floored c.before in omega (arith, f, h, e, k)
+    let f = start.requires.may.floor in let h = start.requires.sent.on-frames in let e = floored c.before in omega (arith, f, h, e, k)
 
 pub leave_at-requires : goal.leave_at-requires
 leave_at-requires c =
     let at-active-at = active-of c.before.before.before.before.before.before in let at-store-pc = pc-of at-active-at in let s = at-store-pc.store-pc in
-    leave-asks (start_of at-store-pc).pre s.last.0 s.ensures s.kept.0 _ _ (floored at-active-at) (base_read c.before.before.before.before.before.before)
+    leave-asks (start_of at-store-pc).requires s.last.0 s.ensures s.kept.0 _ _ (floored at-active-at) (base_read c.before.before.before.before.before.before)
 
 pub put_numbers-requires : goal.put_numbers-requires
 put_numbers-requires c = (start_of (pc-of (active-of (base-of c.before.before.before.before.before.before.before.before.before.before.before.before.before.before)))).requires.words
@@ -89,7 +89,7 @@ pub send-requires : goal.send-requires
 send-requires c =
     let at-leave-at = leave-of c.before.before.before.before.before in let at-base-at = base-of at-leave-at in let at-active-at = active-of at-base-at in
     let at-store-pc = pc-of at-active-at in let start = start_of at-store-pc in let s = at-store-pc.store-pc in
-    leave-sends start.pre s.last.0 s.ensures start.args.dst at-store-pc.before.before.before.reg.result at-active-at.active-at.result.floor at-base-at.base-at.result
+    leave-sends start.requires s.last.0 s.ensures start.args.dst at-store-pc.before.before.before.reg.result at-active-at.active-at.result.floor at-base-at.base-at.result
     (left-words at-leave-at) at-leave-at.leave-at.ensures
 
 pub shape_of-stack : goal.shape_of-stack
@@ -121,7 +121,7 @@ returns c =
     let at-base-at = base-of at-leave-at in let at-active-at = active-of at-base-at in
     let at-store-pc = pc-of at-active-at in let start = start_of at-store-pc in let s = at-store-pc.store-pc in
     let ms = start.args.machine.now in let eb = base_read at-base-at in let ef = floored at-active-at in (
-      c.put_numbers.ensures ∙ ap₂ (λ x y. set (set (set ms 0 x) 1 y) 2 ((machine_in ms).active - 1)) (eb ∙ base_kept start.pre s.last.0 s.ensures) ef,
-      λ w b rep snd. leave-done start.pre s.last.0 s.ensures start.args.dst at-store-pc.before.before.before.reg.result at-active-at.active-at.result.floor at-base-at.base-at.result
+      c.put_numbers.ensures ∙ ap₂ (λ x y. set (set (set ms 0 x) 1 y) 2 ((machine_in ms).active - 1)) (eb ∙ base_kept start.requires s.last.0 s.ensures) ef,
+      λ w b rep snd. leave-done start.requires s.last.0 s.ensures start.args.dst at-store-pc.before.before.before.reg.result at-active-at.active-at.result.floor at-base-at.base-at.result
           (left-words at-leave-at) at-leave-at.leave-at.ensures at-store-pc.before.before.before.reg.ensures ef eb w b _ _ c.send.ensures rep snd,
     )

@@ -35,8 +35,8 @@ overflow_sub-regs c = let u = under (start_of c.before.before.before.before.befo
 
 pub overflow_sub-deep : goal.overflow_sub-deep
 overflow_sub-deep c =
-    let start = start_of c.before.before.before.before.before.before.before.before.before.before.before.before.before.before.before.before in let u = start.pre.may.floor in
-    let e = start.pre.at-floor in omega (arith, u, e)
+    let start = start_of c.before.before.before.before.before.before.before.before.before.before.before.before.before.before.before.before in let u = start.requires.may.floor in
+    let e = start.requires.at-floor in omega (arith, u, e)
 
 pub put_yielded-requires : goal.put_yielded-requires
 put_yielded-requires c = slot_at (start_of c.before.before.before.before.before.before.before.before.before.before.before.before.before.before.before.before.before).requires
@@ -44,6 +44,6 @@ put_yielded-requires c = slot_at (start_of c.before.before.before.before.before.
 pub returns : goal.returns
 returns c =
     let start = start_of c.before.before.before.before.before.before.before.before.before.before.before.before.before.before.before.before.before.before.before.before in let a = start.args in let ms = a.machine.now in
-    let s = c.move_out.new in λ w b rep snd. left (sizes_in ms) (mem start b) (machine_in ms) b.fuel w rep snd a.i start.pre.may a.dst a.payload a.key a.largest
+    let s = c.move_out.new in λ w b rep snd. left (sizes_in ms) (mem start b) (machine_in ms) b.fuel w rep snd a.i start.requires.may a.dst a.payload a.key a.largest
     s.0 s.1.0 c.pop_active.new.chain c.put_yielded.new.slots s.1.1.0 s.1.1.1.0 c.row_at-row.result a.floor a.base _ _
-    c.row_at-row.ensures start.pre.at-floor start.pre.at_base refl refl c.move_out.ensures c.pop_active.ensures c.put_yielded.ensures
+    c.row_at-row.ensures start.requires.at-floor start.requires.at_base refl refl c.move_out.ensures c.pop_active.ensures c.put_yielded.ensures

@@ -82,7 +82,7 @@ found c = sym c.in-At.is ∙ named c.before.before
 slot : (c : In-At-2) → SlotFits (start_of (active-of c)).args.slots.now c.in-At.i
 slot c =
     let start = start_of (active-of c) in let a = start.args in
-    stands-words (machine_in a.machine.now).count a.slots.now (innermost_in a.chain.now (machine_in a.machine.now)).coro c.in-At.i (found c) start.pre.in-slots
+    stands-words (machine_in a.machine.now).count a.slots.now (innermost_in a.chain.now (machine_in a.machine.now)).coro c.in-At.i (found c) start.requires.in-slots
 
 runs : (c : After-active_at-a) → 1 ≤ (machine_in (start_of c).args.machine.now).active
 runs c = some-active _ c.if-machine-eq0-2.false
@@ -203,7 +203,7 @@ returns-in-At-inline_int c =
       may =
           record {
             running = run;
-            floor = start.pre.floor run;
+            floor = start.requires.floor run;
             found = found c.before.before.before.before.before.before.before.before.before.before.before.before.before.before.before.before.before.before.before.before.before;
             unclosed = sym c.closing_at.ensures ∙ c.if-closing_at.false;
             wide = omega (arith, e, wide, c.if-maxregs_at-machine.false);

@@ -49,7 +49,7 @@ may_enter-requires c = enters-fit (of c.before.before.before.before.before.befor
 pub resume_at-requires : goal.resume_at-requires
 resume_at-requires c =
     let start = start_of c.before.before.before.before.before.before.before.before.before.before.before in
-    record { held = holds (of start) start.pre.sound start.args.pc start.fits.pc.fits; enterable = c.may_enter.ensures.at _ _ c.in-At.is }
+    record { held = holds (of start) start.requires.sound start.args.pc start.fits.pc.fits; enterable = c.may_enter.ensures.at _ _ c.in-At.is }
 
 pub returns-in-At : goal.returns-in-At
 returns-in-At c =

@@ -49,7 +49,7 @@ may_leave-requires c = leaves-fit (of c.before.before.before.before.before.befor
 pub yield_at-requires : goal.yield_at-requires
 yield_at-requires c =
     let start = start_of c.before.before.before.before.before.before.before.before.before.before.before in
-    record { held = holds (of start) start.pre.sound start.args.pc start.fits.pc.fits; leavable = c.may_leave.ensures.at _ _ _ _ c.in-At.is }
+    record { held = holds (of start) start.requires.sound start.args.pc start.fits.pc.fits; leavable = c.may_leave.ensures.at _ _ _ _ c.in-At.is }
 
 pub returns-in-At : goal.returns-in-At
 returns-in-At c =

@@ -28,7 +28,7 @@ start_of c = c.before.before.before.before.before.before.before.before.before.be
 
 pub arrive-requires : goal.arrive-requires
 arrive-requires c =
-    let at-coro-enter = coro-enter-of c.before in let start = start_of at-coro-enter in let o = start.pre in
+    let at-coro-enter = coro-enter-of c.before in let start = start_of at-coro-enter in let o = start.requires in
     arrive-fits start.args.sizes _ at-coro-enter.coro-enter.result.machine _ start.args.c Driver.Host o.world at-coro-enter.coro-enter.result.answer o.sound
     (at-coro-enter.coro-enter.ensures o.world o.beside o.rep o.sound)
 

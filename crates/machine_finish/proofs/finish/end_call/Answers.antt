@@ -39,19 +39,19 @@ pub apply_cont-did-requires : goal.apply_cont-did-requires
 apply_cont-did-requires c =
     let start = start_of c.before.before.before.before.before.before in
     let a = start.args in
-    let o = start.pre.on.ok in
+    let o = start.requires.on.ok in
     let k = c.pop-n.auto in
-    end-applies a.sizes (mem start) a.m a.cont start.pre (left c.before.before.before.before.before.before) c.pop-n.result (popped c.before.before.before.before.before.before o.world o.beside o.rep)
+    end-applies a.sizes (mem start) a.m a.cont start.requires (left c.before.before.before.before.before.before) c.pop-n.result (popped c.before.before.before.before.before.before o.world o.beside o.rep)
     (record { stack = k.0; frames = k.1.0; chain = refl; slots = refl; saved_stack = refl; saved_frames = refl; ready = refl; finalize = refl; setup = refl })
 
 pub resume_in-answer-requires : goal.resume_in-answer-requires
 resume_in-answer-requires c =
     let start = start_of c.before.before.before.before.before.before.before.before.before.before.before.before.before.before in
     let a = start.args in
-    let o = start.pre.on.ok in
+    let o = start.requires.on.ok in
     let f = c.apply_cont-did in
     let rep = popped c.before.before.before.before.before.before.before.before.before.before.before.before.before.before o.world o.beside o.rep in
-    end-steps a.sizes (mem start) a.m a.cont start.pre (left c.before.before.before.before.before.before.before.before.before.before.before.before.before.before) c.pop-n.result rep a.kind a.v
+    end-steps a.sizes (mem start) a.m a.cont start.requires (left c.before.before.before.before.before.before.before.before.before.before.before.before.before.before) c.pop-n.result rep a.kind a.v
     (top_table f.new.stack c.pop-n.new.frames f.new.slots plain o.beside) f.result.machine (f.ensures (pop_top o.world) o.beside rep).world
 
 pub returns : goal.returns
@@ -63,5 +63,5 @@ returns c =
     λ w b rep.
     let d = f.ensures (pop_top w) b (popped c.before.before.before.before.before.before.before.before.before.before.before.before.before.before.before.before.before w b rep) in
     call_ends a.sizes (top_table f.new.stack g.new.frames f.new.slots plain b) f.result.machine b.fuel w a.cont a.kind a.v
-    (on-top a.sizes (mem start b) a.m b.fuel w rep start.pre.on.some a.cont start.pre.on.top) start.pre.call f.result.answer g.result d.answer
+    (on-top a.sizes (mem start b) a.m b.fuel w rep start.requires.on.some a.cont start.requires.on.top) start.requires.call f.result.answer g.result d.answer
     (g.ensures a.sizes (apply_cont a.cont a.kind a.v (pop_top w)).world (record { words = on_stack f.new.stack (on_slots f.new.slots b.words); fuel = b.fuel }) d.world)

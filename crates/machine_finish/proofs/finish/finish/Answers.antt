@@ -59,12 +59,12 @@ returns-then-m-eq0 c =
 pub pop-n-requires : goal.pop-n-requires
 pop-n-requires c =
     let start = start_of c.before.before.before.before.before.before in
-    may-pop start.args.sizes (mem start) start.args.m start.pre (some c.before.before.before.before.before.before)
+    may-pop start.args.sizes (mem start) start.args.m start.requires (some c.before.before.before.before.before.before)
 
 pub end_call-did-requires : goal.end_call-did-requires
 end_call-did-requires c =
     let start = start_of c.before.before.before.before.before.before.before in
-    let o = start.pre in
+    let o = start.requires in
     record {
       on = record { ok = record { world = o.world; beside = beyond start o.beside; rep = o.rep; sound = o.sound; room = o.room }; some = some c.before.before.before.before.before.before.before; top = read c.before.before.before.before.before.before.before };
       call = sym c.way_of.ensures ∙ c.in-Caller.is;

@@ -47,15 +47,15 @@ to_dyn-did-requires c = let o = c.requires.ok in heap-room o.rep o.sound o.room
 
 pub pop-k-requires : goal.pop-k-requires
 pop-k-requires c =
-    let start = start_of c.before.before.before.before.before.before.before.before.before in let a = start.args in let o = start.pre.ok in let f = c.to_dyn-did in
-    body-pops a.sizes (mem start a.slots.now) a.m start.pre a.kind a.v (mem start f.new.slots o.beside) f.result.machine
+    let start = start_of c.before.before.before.before.before.before.before.before.before in let a = start.args in let o = start.requires.ok in let f = c.to_dyn-did in
+    body-pops a.sizes (mem start a.slots.now) a.m start.requires a.kind a.v (mem start f.new.slots o.beside) f.result.machine
     (f.ensures o.world (around start o.beside) o.rep).world
 
 pub coro_returned-told-requires : goal.coro_returned-told-requires
 coro_returned-told-requires c =
     let start = start_of c.before.before.before.before.before.before.before.before.before.before.before.before.before.before.before.before.before.before.before in let a = start.args in
-    let o = start.pre.ok in let f = c.to_dyn-did in let p = c.pop-k in
-    body-asks a.sizes (mem start a.slots.now) a.m start.pre a.kind a.v
+    let o = start.requires.ok in let f = c.to_dyn-did in let p = c.pop-k in
+    body-asks a.sizes (mem start a.slots.now) a.m start.requires a.kind a.v
     (lent p.new.stack p.new.frames a.chain.now f.new.slots a.saved-stack.now a.saved-frames.now) p.result
     (p.ensures a.sizes (to_dyn a.kind a.v o.world).world (under start f.new.slots o.beside) (f.ensures o.world (around start o.beside) o.rep).world)
 

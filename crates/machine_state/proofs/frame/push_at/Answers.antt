@@ -53,33 +53,33 @@ overflows-requires c =
 pub returns-then-overflows : goal.returns-then-overflows
 returns-then-overflows c =
     let s = start_of c.before.before in
-    λ w b rep snd. call-refused s.args.sizes w (mem s b) s.args.m b.fuel rep snd s.args.f s.pre.push.function s.args.closure s.args.cont s.args.pc
+    λ w b rep snd. call-refused s.args.sizes w (mem s b) s.args.m b.fuel rep snd s.args.f s.requires.push.function s.args.closure s.args.cont s.args.pc
     (test c.before.before ∙ c.if-overflows.true)
 
 pub store_pc-requires : goal.store_pc-requires
 store_pc-requires c =
     let s = start_of c.before.before.before in
-    let q = s.pre.push.ok.rep.frames.within in
-    record { some = s.pre.some; within = q }
+    let q = s.requires.push.ok.rep.frames.within in
+    record { some = s.requires.some; within = q }
 
 pub push_frame-requires : goal.push_frame-requires
 push_frame-requires c =
     let s = start_of c.before.before.before.before.before.before.before in
-    let o = s.pre.push.ok in
+    let o = s.requires.push.ok in
     let frames' = c.store_pc.new.frames in
     record {
       ok =
           ok-next s.args.sizes (mem s) (top_setup s.args.stack.now frames' s.args.setup.now plain) (only s.args.m) (only s.args.m) o (store_pc s.args.pc o.world) refl
-          (store-sounds s.args.pc o.world s.pre.narrow o.sound)
+          (store-sounds s.args.pc o.world s.requires.narrow o.sound)
           (record { stack = refl; frames = c.store_pc.auto.frames; chain = refl; slots = refl; saved_stack = refl; saved_frames = refl; ready = refl; finalize = refl; setup = refl })
           (c.store_pc.ensures s.args.sizes o.world (around s o.beside) o.rep);
-      function = s.pre.push.function;
+      function = s.requires.push.function;
     }
 
 pub returns : goal.returns
 returns c =
     let s = start_of c.before.before.before.before.before.before.before.before.before.before in
     λ w b rep snd.
-    call-done s.args.sizes w (mem s b) s.args.m b.fuel rep snd s.args.f s.pre.push.function s.args.closure s.args.cont s.args.pc _ _ _
+    call-done s.args.sizes w (mem s b) s.args.m b.fuel rep snd s.args.f s.requires.push.function s.args.closure s.args.cont s.args.pc _ _ _
     (test c.before.before.before.before.before.before.before.before.before.before ∙ c.if-overflows.false)
-    (c.push_frame.ensures (store_pc s.args.pc w) b (c.store_pc.ensures s.args.sizes w (around s b) rep) (store-sounds s.args.pc w s.pre.narrow snd))
+    (c.push_frame.ensures (store_pc s.args.pc w) b (c.store_pc.ensures s.args.sizes w (around s b) rep) (store-sounds s.args.pc w s.requires.narrow snd))

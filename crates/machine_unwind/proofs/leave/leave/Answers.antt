@@ -43,8 +43,8 @@ start_of c = c.before.before.before.before.before.before.before.before
 
 pub pop-n-requires : goal.pop-n-requires
 pop-n-requires c =
-    let start = start_of c.before.before.before in let a = start.args in let o = start.pre.ok in
-    pop-fits a.sizes (mem start o.beside) a.m a.fuel o.world o.rep o.sound start.pre.some
+    let start = start_of c.before.before.before in let a = start.args in let o = start.requires.ok in
+    pop-fits a.sizes (mem start o.beside) a.m a.fuel o.world o.rep o.sound start.requires.some
 
 pub passed-requires : goal.passed-requires
 passed-requires c = sym c.is_coro.ensures ∙ c.if-not-is_coro.true
@@ -59,7 +59,7 @@ pub returns-then-not-is_coro : goal.returns-then-not-is_coro
 returns-then-not-is_coro c =
     let gone = gone_of c.before.before.before in let read = read_of gone in let start = start_of read in let a = start.args in
     λ w b rep snd.
-    let t = some-top w.frames a.frames.now a.m.depth rep.frames start.pre.some in
+    let t = some-top w.frames a.frames.now a.m.depth rep.frames start.requires.some in
     let e = gone.pop.last in
     left-plain a.value a.func a.pc a.sizes (lent e.0 e.1.0 a.chain.now a.slots.now a.saved-stack.now a.saved-frames.now b) gone.pop.result a.fuel
     w t.top t.rest t.are read.cont-at.result (read.cont-at.ensures ∙ its-cont w.frames a.frames.now a.m.depth rep.frames t) c.passed.result
@@ -68,8 +68,8 @@ returns-then-not-is_coro c =
 pub coro_escaped-did-requires : goal.coro_escaped-did-requires
 coro_escaped-did-requires c =
     let gone = gone_of c.before.before.before.before.before.before.before in let read = read_of gone in
-    let start = start_of read in let a = start.args in let o = start.pre.ok in let w = o.world in
-    let t = some-top w.frames a.frames.now a.m.depth o.rep.frames start.pre.some in
+    let start = start_of read in let a = start.args in let o = start.requires.ok in let w = o.world in
+    let t = some-top w.frames a.frames.now a.m.depth o.rep.frames start.requires.some in
     let is = read.cont-at.ensures ∙ its-cont w.frames a.frames.now a.m.depth o.rep.frames t in
     let e = gone.pop.last in
     let M = lent e.0 e.1.0 a.chain.now a.slots.now a.saved-stack.now a.saved-frames.now in
@@ -101,7 +101,7 @@ returns c =
     let gone = gone_of c.before.before.before.before.before.before.before.before.before.before.before.before.before.before.before.before.before.before.before.before.before.before.before.before in let read = read_of gone in
     let start = start_of read in let a = start.args in let r = c.coro_escaped-did in let e = r.new in
     λ w b rep snd.
-    let t = some-top w.frames a.frames.now a.m.depth rep.frames start.pre.some in
+    let t = some-top w.frames a.frames.now a.m.depth rep.frames start.requires.some in
     left_body a.value a.func a.pc a.sizes (lent e.0 e.1.0 e.1.1.0 e.1.1.1.0 e.1.1.1.1.0 e.1.1.1.1.1.0 b) r.result.machine r.result.fuel
     w t.top t.rest t.are read.cont-at.result (read.cont-at.ensures ∙ its-cont w.frames a.frames.now a.m.depth rep.frames t) r.result.answer c.halted.result
     (sym c.is_coro.ensures ∙ c.if-not-is_coro.false) c.halted.ensures

@@ -88,19 +88,19 @@ shape_of-saved_frames-then-not-goes_on c = let did = turn-of c.before.before in 
 
 pub returns-then-not-goes_on : goal.returns-then-not-goes_on
 returns-then-not-goes_on c =
-    let did = turn-of c.before.before in let loop = loop-of did in let p = (start_of loop).pre in let r = did.turn.result in
+    let did = turn-of c.before.before in let loop = loop-of did in let p = (start_of loop).requires in let r = did.turn.result in
     along-ends loop.loop.inv (some_left did.before.before.before.before.before.before.before) p.func p.pc (at_turn did) (with r.machine r.fuel) r.answer
     did.turn.ensures (sym c.goes_on.ensures ∙ c.if-not-goes_on.true)
 
 pub loop-n-smaller : goal.loop-n-smaller
 loop-n-smaller c =
-    let did = turn-of c.before.before in let loop = loop-of did in let p = (start_of loop).pre in let r = did.turn.result in
+    let did = turn-of c.before.before in let loop = loop-of did in let p = (start_of loop).requires in let r = did.turn.result in
     along-fewer loop.loop.inv (some_left did.before.before.before.before.before.before.before) p.func p.pc (at_turn did) (with r.machine r.fuel) r.answer
     did.turn.ensures (same_turn did) (sym c.goes_on.ensures ∙ c.if-not-goes_on.false)
 
 pub loop-n-preserved : goal.loop-n-preserved
 loop-n-preserved c =
-    let did = turn-of c.before.before in let loop = loop-of did in let p = (start_of loop).pre in let r = did.turn.result in
+    let did = turn-of c.before.before in let loop = loop-of did in let p = (start_of loop).requires in let r = did.turn.result in
     along-more loop.loop.inv (some_left did.before.before.before.before.before.before.before) p.func p.pc (at_turn did) (with r.machine r.fuel) r.answer
     did.turn.ensures (same_turn did) (sym c.goes_on.ensures ∙ c.if-not-goes_on.false)
 

@@ -41,17 +41,17 @@ pub take_handler-requires : goal.take_handler-requires
 take_handler-requires c =
     let start = start_of c.before.before.before.before.before.before in
     let a = start.args in
-    let o = start.pre.ok in
-    catch-fits a.sizes (mem start o.beside) a.m a.fuel o.world o.rep o.sound start.pre.some c.in-By.h
+    let o = start.requires.ok in
+    catch-fits a.sizes (mem start o.beside) a.m a.fuel o.world o.rep o.sound start.requires.some c.in-By.h
     (sym c.in-By.is ∙ read c.before.before.before.before.before.before o.world o.beside o.rep)
 
 pub leave-requires : goal.leave-requires
 leave-requires c =
     let start = start_of c.before.before.before.before.before.before.before.before.before in
     let a = start.args in
-    let o = start.pre.ok in
+    let o = start.requires.ok in
     let beside : Beside = record { words = on_setup a.setup.now o.beside.words; fuel = o.beside.fuel } in
-    record { ok = record { world = o.world; beside = beside; rep = o.rep; sound = o.sound; room = o.room }; some = start.pre.some }
+    record { ok = record { world = o.world; beside = beside; rep = o.rep; sound = o.sound; room = o.room }; some = start.requires.some }
 
 pub shape_of-stack-in-By : goal.shape_of-stack-in-By
 shape_of-stack-in-By c = c.take_handler.auto.stack

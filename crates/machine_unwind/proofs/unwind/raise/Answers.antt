@@ -45,8 +45,8 @@ thrown-did-requires c = let o = c.requires.ok in heap-room o.rep o.sound o.room
 
 pub search-requires : goal.search-requires
 search-requires c =
-    let start = start_of c.before.before.before.before.before.before.before.before.before.before.before.before.before in let a = start.args in let o = start.pre.ok in
-    raised-fits a.sizes (mem start) (after-made c.before.before.before.before.before.before.before.before.before.before.before.before.before) a.m c.thrown-did.result.machine a.fuel o a.fault start.pre.raises c.origin-at.result
+    let start = start_of c.before.before.before.before.before.before.before.before.before.before.before.before.before in let a = start.args in let o = start.requires.ok in
+    raised-fits a.sizes (mem start) (after-made c.before.before.before.before.before.before.before.before.before.before.before.before.before) a.m c.thrown-did.result.machine a.fuel o a.fault start.requires.raises c.origin-at.result
     (c.origin-at.ensures a.sizes o.world (record { words = mem start o.beside; fuel = a.fuel }) o.rep)
     (record { stack = refl; frames = refl; chain = refl; slots = c.thrown-did.auto.slots; saved_stack = refl; saved_frames = refl; ready = refl; finalize = refl; setup = refl })
     (told c.before.before.before.before.before.before.before.before.before.before.before.before.before o.world o.beside o.rep).world
@@ -80,7 +80,7 @@ returns-in-Word c =
     let start = start_of c.before.before.before.before.before.before.before.before.before.before.before.before.before.before.before.before.before.before.before.before.before.before.before.before.before.before in let a = start.args in let r = c.search in let e = r.new in
     λ w b rep snd.
     let u = (thrown a.fault w).world in
-    let g = thrown-good a.fault w snd start.pre.raises in
+    let g = thrown-good a.fault w snd start.requires.raises in
     let d = told c.before.before.before.before.before.before.before.before.before.before.before.before.before.before.before.before.before.before.before.before.before.before.before.before.before.before w b rep in
     raise-searched a.fault w a.sizes (six_setup e.0 e.1.0 e.1.1.0 e.1.1.1.0 e.1.1.1.1.0 e.1.1.1.1.1.0 a.setup.now plain b)
     r.result.machine r.result.fuel c.in-Word.v c.thrown-did.result.answer c.origin-at.result c.in-Word.is d.answer

@@ -51,12 +51,12 @@ raise-requires c =
     let asked = asked_of c.before.before.before.before.before.before.before.before.before in
     let start = start_of asked in
     let a = start.args in
-    let o = start.pre.ok in
+    let o = start.requires.ok in
     let n = with a.m a.fuel in
     let u = store_some a.pc o.world in
     record {
       ok =
-          ok-next a.sizes (mem start) (at-pc c.before.before.before.before.before.before.before.before.before) n n o u (some-setup a.pc o.world) (some-sounds a.pc o.world start.pre.narrow o.sound)
+          ok-next a.sizes (mem start) (at-pc c.before.before.before.before.before.before.before.before.before) n n o u (some-setup a.pc o.world) (some-sounds a.pc o.world start.requires.narrow o.sound)
           (record { stack = refl; frames = c.store_some.auto.frames; chain = refl; slots = refl; saved_stack = refl; saved_frames = refl; ready = refl; finalize = refl; setup = refl })
           (c.store_some.ensures a.sizes o.world (record { words = mem start o.beside; fuel = a.fuel }) o.rep);
       raises = sym asked.is-raisable.ensures ∙ c.if-not-is_raisable.false;
@@ -90,4 +90,4 @@ returns c =
     λ w b rep snd.
     unwind-raises a.sizes (six_setup e.0 e.1.0 e.1.1.0 e.1.1.1.0 e.1.1.1.1.0 e.1.1.1.1.1.0 a.setup.now plain b)
     r.result.machine r.result.fuel w a.fault a.pc r.result.answer (sym asked.is-raisable.ensures ∙ c.if-not-is_raisable.false)
-    (r.ensures (store_some a.pc w) b (c.store_some.ensures a.sizes w (record { words = mem start b; fuel = a.fuel }) rep) (some-sounds a.pc w start.pre.narrow snd))
+    (r.ensures (store_some a.pc w) b (c.store_some.ensures a.sizes w (record { words = mem start b; fuel = a.fuel }) rep) (some-sounds a.pc w start.requires.narrow snd))

@@ -67,7 +67,7 @@ returns c =
     let same = at-kept.kept.kept in
     record {
       is =
-          stepped (mem start) (left_by at-kept) a.m r.machine a.fuel r.fuel a.sizes a.op r.answer start.pre
+          stepped (mem start) (left_by at-kept) a.m r.machine a.fuel r.fuel a.sizes a.op r.answer start.requires
           (record {
             stack = same.0;
             frames = same.1.0;

@@ -27,7 +27,7 @@ told : (c : After-place-s) → Part (mem (start_of c)) (start_of c).args.m (star
 told c =
     let start = start_of c in
     let a = start.args in
-    part_of (mem start) a.m a.fuel a.ok c.place-s.result start.pre c.place-s.ensures
+    part_of (mem start) a.m a.fuel a.ok c.place-s.result start.requires c.place-s.ensures
 
 pub place-s-requires : goal.place-s-requires
 place-s-requires c =

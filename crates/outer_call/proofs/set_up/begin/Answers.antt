@@ -88,7 +88,7 @@ returns c =
     let start = start_of at-set-up in
     let ws = start.args.given.now in
     let same = at-set-up.set-up.kept in
-    begun ws (mem start) start.pre (left_by at-set-up) at-set-up.set-up.result _ _
+    begun ws (mem start) start.requires (left_by at-set-up) at-set-up.set-up.result _ _
     (record {
       stack = same.0;
       frames = same.1.0;
@@ -100,4 +100,4 @@ returns c =
       finalize = same.1.1.1.1.1.1.1.0;
       setup = same.1.1.1.1.1.1.1.1.0;
     })
-    (own-part ws (is_held ws (mem start) start.pre)) refl at-set-up.set-up.ensures
+    (own-part ws (is_held ws (mem start) start.requires)) refl at-set-up.set-up.ensures

@@ -41,7 +41,7 @@ loop-i-init c = along-start _ _ _ _ _ c.requires
 pub read_at-read-requires : goal.read_at-read-requires
 read_at-read-requires c =
     let start = start_of c.before.before in
-    in-calls start.args.calls.now c.loop-i.i start.args.n start.pre.calls c.loop-i-test.true
+    in-calls start.args.calls.now c.loop-i.i start.args.n start.requires.calls c.loop-i-test.true
 
 pub do_read-did-requires : goal.do_read-did-requires
 do_read-did-requires c = c.loop-i.invariant.fits
@@ -49,7 +49,7 @@ do_read-did-requires c = c.loop-i.invariant.fits
 pub put_at-requires : goal.put_at-requires
 put_at-requires c =
     let test = test_of c.before.before.before.before.before.before.before.before.before.before.before.before.before.before.before.before.before.before.before.before in
-    let r = (start_of test.before).pre.room in let k = test.before.loop.inv.long in let t = test.loop-test.taken in omega arith
+    let r = (start_of test.before).requires.room in let k = test.before.loop.inv.long in let t = test.loop-test.taken in omega arith
 
 pub overflow_add-i : goal.overflow_add-i
 overflow_add-i c = let test = test_of (do-read-of c.before) in let t = test.loop-test.taken in omega (arith, (start_of test.before).good)
@@ -61,7 +61,7 @@ pub loop-i-preserved : goal.loop-i-preserved
 loop-i-preserved c =
     let did = do-read-of c.before in
     let test = test_of did in let loop = test.before in let same = did.do-read.kept in
-    along-next loop.loop.inv test.loop-test.taken (start_of loop).pre.room
+    along-next loop.loop.inv test.loop-test.taken (start_of loop).requires.room
     did.before.before.before.before.before.before.before.before.before.read_at.ensures did.do-read.ensures c.put_at.ensures
     (record {
       stack = same.0;
