@@ -17,7 +17,7 @@ use linked_calls::call::bvm_call_unchecked;
 use linked_calls::numbers::FUEL;
 use linked_switch::answer::goes_on;
 use linked_switch::enters::{Enters, may_enter};
-use linked_switch::leaves::{Yielder, may_leave};
+use linked_switch::leaves::{Sleeper, may_leave};
 use linked_switch::resume::resume_at;
 use linked_switch::yielding::yield_at;
 use memory_calls::answer::ANSWER_WIDTH;
@@ -185,7 +185,7 @@ fn yield_call(
         (host (nine (of_mut stack) (of_mut frames) (of_mut chain) (of_mut slots) (of_mut saved_stack) (of_mut saved_frames) (of_mut ready) (of_mut finalize) (of_ref setup) at_exit) (at_exit (of_mut machine)) (at_exit (of_mut fuel))) answers.new }
 {
     match may_leave(frames, chain, slots, machine, fuel[FUEL], dst, src) {
-        Yielder::At(k, to, key, largest) => {
+        Sleeper::At(k, to, key, largest) => {
             yield_at(
                 stack,
                 frames,
@@ -205,7 +205,7 @@ fn yield_call(
             );
             goes_on_at(answers, i);
         }
-        Yielder::Not => general_at(
+        Sleeper::Not => general_at(
             stack,
             frames,
             chain,

@@ -25,7 +25,7 @@ use Rattle.linked_switch.specs.Words.{record_at}
 use Rattle.linked_switch.specs.Enters.{top_in}
 use Rattle.linked_switch.specs.Leave.{innermost_in}
 use Rattle.linked_switch.specs.Leaves.{has_word, key_fits, by_resume, exit_tests, leaves_in, to_leave, leave_tests, may_leave, Leavable, Leaving}
-use Rattle.linked_switch.specs.declared.leaves.Yielder.{Yielder}
+use Rattle.linked_switch.specs.declared.leaves.Sleeper.{Sleeper}
 use Rattle.linked_switch.proofs.Tests.{fails}
 
 -- another driver
@@ -45,48 +45,48 @@ base frames chain ms = base_in frames (inner chain ms).floor
 module _ {frames chain slots ms : List ℕ} {fuel dst src : ℕ} where
   -- ---- a test that is not passed
 
-  refused : (n : ℕ) → get_or (leave_tests frames chain slots ms fuel dst src) n true ≡ false → Leaving frames chain slots ms fuel dst src Yielder.Not
+  refused : (n : ℕ) → get_or (leave_tests frames chain slots ms fuel dst src) n true ≡ false → Leaving frames chain slots ms fuel dst src Sleeper.Not
   unfolding may_leave
   refused n e = record { at = λ i t k l q. never cc; told = sym (fails (leave_tests frames chain slots ms fuel dst src) n e) }
 
-  pub no-frame : (machine_in ms).depth ≡ 0 → Leaving frames chain slots ms fuel dst src Yielder.Not
+  pub no-frame : (machine_in ms).depth ≡ 0 → Leaving frames chain slots ms fuel dst src Sleeper.Not
   no-frame e = refused 0 (lt-leb 1 (machine_in ms).depth (omega arith))
 
-  pub no_fuel : fuel ≡ 0 → Leaving frames chain slots ms fuel dst src Yielder.Not
+  pub no_fuel : fuel ≡ 0 → Leaving frames chain slots ms fuel dst src Sleeper.Not
   no_fuel e = refused 1 (lt-leb 1 fuel (omega arith))
 
-  pub none_runs : (machine_in ms).active ≡ 0 → Leaving frames chain slots ms fuel dst src Yielder.Not
+  pub none_runs : (machine_in ms).active ≡ 0 → Leaving frames chain slots ms fuel dst src Sleeper.Not
   none_runs e = refused 2 (lt-leb 1 (machine_in ms).active (omega arith))
 
-  pub no-dst : (machine_in ms).height ≤ top_in frames ms + dst → Leaving frames chain slots ms fuel dst src Yielder.Not
+  pub no-dst : (machine_in ms).height ≤ top_in frames ms + dst → Leaving frames chain slots ms fuel dst src Sleeper.Not
   no-dst h = refused 3 (le-ltb (top_in frames ms + dst) (machine_in ms).height h)
 
-  pub no_src : (machine_in ms).height ≤ top_in frames ms + src → Leaving frames chain slots ms fuel dst src Yielder.Not
+  pub no_src : (machine_in ms).height ≤ top_in frames ms + src → Leaving frames chain slots ms fuel dst src Sleeper.Not
   no_src h = refused 4 (le-ltb (top_in frames ms + src) (machine_in ms).height h)
 
-  pub no-resume : by_resume (inner chain ms).driver ≡ false → Leaving frames chain slots ms fuel dst src Yielder.Not
+  pub no-resume : by_resume (inner chain ms).driver ≡ false → Leaving frames chain slots ms fuel dst src Sleeper.Not
   no-resume e = refused 5 e
 
-  pub no_place : {f : Fault} → L.Not f ≡ to_leave chain slots ms → Leaving frames chain slots ms fuel dst src Yielder.Not
+  pub no_place : {f : Fault} → L.Not f ≡ to_leave chain slots ms → Leaving frames chain slots ms fuel dst src Sleeper.Not
   no_place e = refused 6 (ap (leaves_in frames chain slots ms) (sym e))
 
   module _ {i : ℕ} (found : L.At i ≡ to_leave chain slots ms) where
-    kept_in : (n : ℕ) → get_or (exit_tests frames chain (record_at slots i) ms) n true ≡ false → Leaving frames chain slots ms fuel dst src Yielder.Not
+    kept_in : (n : ℕ) → get_or (exit_tests frames chain (record_at slots i) ms) n true ≡ false → Leaving frames chain slots ms fuel dst src Sleeper.Not
     kept_in n e = refused 6 (ap (leaves_in frames chain slots ms) (sym found) ∙ fails (exit_tests frames chain (record_at slots i) ms) n e)
 
-    pub closing : (record_at slots i).closing ≡ true → Leaving frames chain slots ms fuel dst src Yielder.Not
+    pub closing : (record_at slots i).closing ≡ true → Leaving frames chain slots ms fuel dst src Sleeper.Not
     closing e = kept_in 0 (ap not e)
 
-    pub too_wide : (record_at slots i).maxregs < (machine_in ms).height - base frames chain ms → Leaving frames chain slots ms fuel dst src Yielder.Not
+    pub too_wide : (record_at slots i).maxregs < (machine_in ms).height - base frames chain ms → Leaving frames chain slots ms fuel dst src Sleeper.Not
     too_wide h = kept_in 1 (lt-leb ((machine_in ms).height - base frames chain ms) (record_at slots i).maxregs h)
 
-    pub too-deep : (record_at slots i).maxframes < (machine_in ms).depth - (inner chain ms).floor → Leaving frames chain slots ms fuel dst src Yielder.Not
+    pub too-deep : (record_at slots i).maxframes < (machine_in ms).depth - (inner chain ms).floor → Leaving frames chain slots ms fuel dst src Sleeper.Not
     too-deep h = kept_in 2 (lt-leb ((machine_in ms).depth - (inner chain ms).floor) (record_at slots i).maxframes h)
 
-    pub no_key : Exact.Over ≡ next_key (record_at slots i).largest → Leaving frames chain slots ms fuel dst src Yielder.Not
+    pub no_key : Exact.Over ≡ next_key (record_at slots i).largest → Leaving frames chain slots ms fuel dst src Sleeper.Not
     no_key e = kept_in 3 (ap key_fits (sym e))
 
-    pub no_word : {n : ℕ} → Exact.Fits n ≡ next_key (record_at slots i).largest → Inline.Large ≡ inline_of (of_bits 63 n) → Leaving frames chain slots ms fuel dst src Yielder.Not
+    pub no_word : {n : ℕ} → Exact.Fits n ≡ next_key (record_at slots i).largest → Inline.Large ≡ inline_of (of_bits 63 n) → Leaving frames chain slots ms fuel dst src Sleeper.Not
     no_word e f = kept_in 3 (ap key_fits (sym e) ∙ ap has_word (sym f))
 
     -- ---- all are passed
@@ -103,7 +103,7 @@ module _ {frames chain slots ms : List ℕ} {fuel dst src : ℕ} where
         (both (lt-ltb (low + dst) (machine_in ms).height h.dst-in) (both (lt-ltb (low + src) (machine_in ms).height h.src-in)
         (both (ap by_resume h.driven) (both (ap (leaves_in frames chain slots ms) (sym found) ∙ exit) refl))))))
 
-    pub at_slot : {to key largest : ℕ} → Leavable frames chain slots ms fuel dst src i to key largest → Leaving frames chain slots ms fuel dst src (Yielder.At i to key largest)
+    pub at_slot : {to key largest : ℕ} → Leavable frames chain slots ms fuel dst src i to key largest → Leaving frames chain slots ms fuel dst src (Sleeper.At i to key largest)
     at_slot {to} {key} {largest} h =
         record {
           at = λ j t k n e.

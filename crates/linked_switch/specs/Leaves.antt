@@ -15,7 +15,7 @@ use Rattle.linked_calls.specs.Words.{machine_in}
 use Rattle.linked_switch.specs.Words.{record_at, all}
 use Rattle.linked_switch.specs.Enters.{top_in, in_top}
 use Rattle.linked_switch.specs.Leave.{innermost_in, May, Keyed}
-use Rattle.linked_switch.specs.declared.leaves.Yielder.{Yielder}
+use Rattle.linked_switch.specs.declared.leaves.Sleeper.{Sleeper}
 
 -- words enough for the numbers; the innermost coroutine has a frame, which begins on the stack
 pub record LeavesFits (frames chain slots ms : List ℕ) : Type 0 where
@@ -89,11 +89,11 @@ pub record Leavable (frames chain slots ms : List ℕ) (fuel dst src i to key la
   pub keyed : Keyed slots i key largest
   pub driven : (innermost_in chain (machine_in ms)).driver ≡ Driver.Resume to
 
-abbrev pub leaves : Yielder → Bool
-leaves (Yielder.At i to key largest) = true
-leaves Yielder.Not = false
+abbrev pub leaves : Sleeper → Bool
+leaves (Sleeper.At i to key largest) = true
+leaves Sleeper.Not = false
 
-pub record Leaving (frames chain slots ms : List ℕ) (fuel dst src : ℕ) (r : Yielder) : Type 0 where
-  pub at : (i to key largest : ℕ) → r ≡ Yielder.At i to key largest → Leavable frames chain slots ms fuel dst src i to key largest
+pub record Leaving (frames chain slots ms : List ℕ) (fuel dst src : ℕ) (r : Sleeper) : Type 0 where
+  pub at : (i to key largest : ℕ) → r ≡ Sleeper.At i to key largest → Leavable frames chain slots ms fuel dst src i to key largest
   -- it says so exactly if the tests are passed
   pub told : leaves r ≡ may_leave frames chain slots ms fuel dst src

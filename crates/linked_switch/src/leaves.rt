@@ -9,7 +9,7 @@ use model::machine::Driver;
 
 // The slot of the coroutine that may be suspended, the register of the Resume that waits for it, its next key and that key's integer.
 #[derive(Clone, Copy)]
-pub enum Yielder {
+pub enum Sleeper {
     At(usize, u64, u64, u64),
     Not,
 }
@@ -23,53 +23,53 @@ pub fn may_leave(
     fuel: u64,
     dst: u64,
     src: u64,
-) -> Yielder
+) -> Sleeper
     requires { LeavesFits frames.now chain.now slots.now machine.now }
     ensures { Leaving frames.now chain.now slots.now machine.now fuel dst src result }
 {
     if machine[DEPTH] == 0 {
-        return Yielder::Not;
+        return Sleeper::Not;
     }
     if fuel == 0 {
-        return Yielder::Not;
+        return Sleeper::Not;
     }
     if machine[ACTIVE] == 0 {
-        return Yielder::Not;
+        return Sleeper::Not;
     }
     let low = memory_tables::frame::base_at(frames, (machine[DEPTH] - 1) as usize) as u64;
     if machine[HEIGHT] <= low {
-        return Yielder::Not;
+        return Sleeper::Not;
     }
     let width = machine[HEIGHT] - low;
     if width <= dst {
-        return Yielder::Not;
+        return Sleeper::Not;
     }
     if width <= src {
-        return Yielder::Not;
+        return Sleeper::Not;
     }
     let a = memory_tables::active::active_at(chain, (machine[ACTIVE] - 1) as usize);
     let driver = a.driver;
     let Driver::Resume(to) = driver else {
-        return Yielder::Not;
+        return Sleeper::Not;
     };
     match heap::heap::coro_place(slots, machine[COUNT] as usize, Word(a.coro)) {
-        CoroPlace::Not(_) => Yielder::Not,
+        CoroPlace::Not(_) => Sleeper::Not,
         CoroPlace::At(i) => {
             if heap::field::closing_at(slots, i) {
-                return Yielder::Not;
+                return Sleeper::Not;
             }
             let base = memory_tables::frame::base_at(frames, a.floor as usize) as u64;
             if heap::field::maxregs_at(slots, i) < machine[HEIGHT] - base {
-                return Yielder::Not;
+                return Sleeper::Not;
             }
             if heap::field::maxframes_at(slots, i) < machine[DEPTH] - a.floor {
-                return Yielder::Not;
+                return Sleeper::Not;
             }
             match heap::int::next_key(heap::field::largest_at(slots, i)) {
-                Exact::Over => Yielder::Not,
+                Exact::Over => Sleeper::Not,
                 Exact::Fits(n) => match Word::inline_int(n) {
-                    Inline::Large => Yielder::Not,
-                    Inline::At(k) => Yielder::At(i, to, k.0, n),
+                    Inline::Large => Sleeper::Not,
+                    Inline::At(k) => Sleeper::At(i, to, k.0, n),
                 },
             }
         }

@@ -9,7 +9,7 @@ ghost use Rattle.memory_world.specs.Lendings.{six, plain};
 ghost use Rattle.memory_world.specs.Contract.{at_entry, at_exit, of_mut};
 
 use crate::leave::leave;
-use crate::leaves::{Yielder, may_leave};
+use crate::leaves::{Sleeper, may_leave};
 use linked_calls::numbers::FUEL;
 
 // One unit of fuel, then the suspension.
@@ -75,7 +75,7 @@ pub extern "C" fn bvm_try_yield_unchecked(
     match may_leave(
         frames, chain, slots, machine, fuel[FUEL], dst as u64, src as u64,
     ) {
-        Yielder::At(i, to, key, largest) => {
+        Sleeper::At(i, to, key, largest) => {
             yield_at(
                 stack,
                 frames,
@@ -95,6 +95,6 @@ pub extern "C" fn bvm_try_yield_unchecked(
             );
             1
         }
-        Yielder::Not => 0,
+        Sleeper::Not => 0,
     }
 }
