@@ -257,7 +257,7 @@ impl Line {
         match (call, answer) {
             (_, a) if a.number() == 10 => {
                 println!(
-                    "{} tries an instruction without fuel: each try answers 10 {hand}",
+                    "{} tries an instruction without fuel: its call answers 10 {hand}",
                     name(runner)
                 );
             }

@@ -1,5 +1,5 @@
 // What there is to say of a call, and the wakes counted. What the system does with the text no contract says; the counts each has.
-ghost use Rattle.std.specs.Prelude.{◌≡◌, ◌+◌, ◌≤◌, length};
+ghost use Rattle.std.specs.Prelude.{◌≡◌, ◌&&◌, ◌+◌, ◌≤◌, length};
 ghost use Rattle.model.specs.Answer.{number_of};
 ghost use Rattle.furnace.specs.Watch.{is_back, noted_words, one_more, entering, counted};
 
@@ -9,7 +9,6 @@ use crate::watch::{
     Part, Sent, all_equal, arrives, at_most, coroutine, field, floor, last, own_base, part_of, woke,
 };
 use crate::{body, note, show};
-use lists::both;
 use memory_calls::answer::Eight;
 use memory_calls::layout::CAUGHT;
 use memory_world::machine::Machine;
@@ -59,6 +58,16 @@ fn woken(
     show::bodies(page, frames, low, m.depth);
     show::verdict(page, equal, sent.is);
     count.one_more(equal)
+}
+
+// Both.
+fn both(a: bool, b: bool) -> bool
+    ensures { result ≡ a && b }
+{
+    if a {
+        return b;
+    }
+    false
 }
 
 // The place of the word that was sent; of none, if none was.
@@ -145,7 +154,7 @@ fn refused(page: &mut Page, told: Eight, coro: u64) {
             show::runner(page, coro);
             show::number(
                 page,
-                b" tries an instruction without fuel: each try answers ",
+                b" tries an instruction without fuel: its call answers ",
                 n,
             );
         }
