@@ -1,13 +1,21 @@
 // The set-up's numbers by value, read from its words.
-ghost use Rattle.std.specs.Prelude.{◌≡◌};
+ghost use Rattle.std.specs.Prelude.{◌≡◌, max};
 ghost use Rattle.model.specs.Sound.{row_words};
 ghost use Rattle.memory_world.specs.Decode.{setup_of};
 ghost use Rattle.memory_world.specs.Sizes.{SetupFits, SizesTold};
 
 use crate::machine::Sizes;
-use heap::int::larger;
 use memory_tables::layout;
 use memory_tables::program::{FUNCTION_WIDTH, NUMBERS_WIDTH};
+
+fn larger(a: usize, b: usize) -> usize
+    ensures { result ≡ max a b }
+{
+    if a < b {
+        return b;
+    }
+    a
+}
 
 // The words of a row: as many as the stack's, or the widest function's.
 fn row_words(setup: &[u64]) -> usize
@@ -15,15 +23,15 @@ fn row_words(setup: &[u64]) -> usize
     ensures { result ≡ row_words (setup_of setup.now) }
 {
     let n = setup[layout::FUNCTIONS] as usize;
-    let mut most = setup[layout::STACK];
+    let mut most = setup[layout::STACK] as usize;
     let mut i = 0;
     while i < n {
         let at = NUMBERS_WIDTH + i * FUNCTION_WIDTH;
-        let regs = setup[at];
+        let regs = setup[at] as usize;
         most = larger(most, regs);
         i += 1;
     }
-    most as usize
+    most
 }
 
 // The limits, the words of a row, and the costs.
