@@ -56,8 +56,7 @@ fn do_list(
 }
 
 // What `bvm_run` does.
-#[unsafe(no_mangle)]
-pub extern "C" fn bvm_batch(
+pub fn bvm_batch(
     stack: &mut [u64],
     frames: &mut [u64],
     chain: &mut [u64],

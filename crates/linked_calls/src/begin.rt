@@ -128,8 +128,7 @@ fn accepts(
     )
 }
 
-#[unsafe(no_mangle)]
-pub extern "C" fn bvm_set_up(
+pub fn bvm_set_up(
     stack: &mut [u64],
     frames: &mut [u64],
     chain: &mut [u64],

@@ -79,8 +79,7 @@ fn do_call(
 }
 
 // Any call but the set-up, tested.
-#[unsafe(no_mangle)]
-pub extern "C" fn bvm_call(
+pub fn bvm_call(
     stack: &mut [u64],
     frames: &mut [u64],
     chain: &mut [u64],
@@ -134,8 +133,7 @@ pub extern "C" fn bvm_call(
 }
 
 // The same on a machine that is known to be sound, with room for the answer: neither is tested.
-#[unsafe(no_mangle)]
-pub extern "C" fn bvm_call_unchecked(
+pub fn bvm_call_unchecked(
     stack: &mut [u64],
     frames: &mut [u64],
     chain: &mut [u64],

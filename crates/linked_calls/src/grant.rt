@@ -44,8 +44,7 @@ fn do_grant(
     tell(answer, a)
 }
 
-#[unsafe(no_mangle)]
-pub extern "C" fn bvm_grant(
+pub fn bvm_grant(
     stack: &[u64],
     frames: &[u64],
     chain: &[u64],

@@ -67,8 +67,7 @@ fn do_run(
     0
 }
 
-#[unsafe(no_mangle)]
-pub extern "C" fn bvm_run(
+pub fn bvm_run(
     stack: &mut [u64],
     frames: &mut [u64],
     chain: &mut [u64],

@@ -56,8 +56,7 @@ fn span_in(
     }
 }
 
-#[unsafe(no_mangle)]
-pub extern "C" fn bvm_look(
+pub fn bvm_look(
     stack: &[u64],
     frames: &[u64],
     chain: &[u64],

@@ -117,8 +117,7 @@ pub fn short(ok: bool) -> u64
 }
 
 // 1 if the machine is sound, else 0.
-#[unsafe(no_mangle)]
-pub extern "C" fn bvm_sound(
+pub fn bvm_sound(
     stack: &[u64],
     frames: &[u64],
     chain: &[u64],

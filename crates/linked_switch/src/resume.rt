@@ -50,8 +50,7 @@ pub fn resume_at(
 }
 
 // A Resume that nothing refuses, with gate and charge, on a machine that is known to be sound: 1. Of any other nothing is done: 0.
-#[unsafe(no_mangle)]
-pub extern "C" fn bvm_try_resume_unchecked(
+pub fn bvm_try_resume_unchecked(
     stack: &mut [u64],
     frames: &mut [u64],
     chain: &mut [u64],

@@ -53,8 +53,7 @@ pub fn yield_at(
 }
 
 // A Yield that nothing refuses, to a Resume, with gate and charge, on a machine that is known to be sound: 1. Of any other nothing is done: 0.
-#[unsafe(no_mangle)]
-pub extern "C" fn bvm_try_yield_unchecked(
+pub fn bvm_try_yield_unchecked(
     stack: &mut [u64],
     frames: &mut [u64],
     chain: &mut [u64],
