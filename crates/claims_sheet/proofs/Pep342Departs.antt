@@ -19,25 +19,26 @@ use Rattle.model.specs.Call.{Operation, typed}
 use Rattle.model.specs.declared.exec.Step.{Step}
 use Rattle.model.specs.declared.call.Op.{Op}
 use Rattle.model.specs.declared.call.Answer.{Answer}
-use Rattle.claims_sheet.specs.Setters.{with_chain}
+use Rattle.claims_sheet.specs.Setters.{with_chain, with_finalize, with_finalizing}
 use Rattle.claims_sheet.specs.Lines.{Lines, leads_from, refuse}
 use Rattle.claims_sheet.specs.Does.{does, operation}
 use Rattle.claims_sheet.specs.Words.{found, is_coroutine, core_of, rest_of, state, suspended, too_high}
-use Rattle.claims_sheet.specs.Moves.{pc_stored, emptied, at_least, finished_with}
-use Rattle.claims_sheet.specs.Charging.{amount, fuelled, used_up, searches, closable, queue_from, taken, instruction}
+use Rattle.claims_sheet.specs.Moves.{pc_stored, put, emptied, at_least, finished_with}
+use Rattle.claims_sheet.specs.Charging.{amount, reserve, fuelled, used_up, searches, closable, queue_from, taken, charged, lost, instruction}
 use Rattle.claims_sheet.specs.Endings.{popped, handed_back, returned}
-use Rattle.claims_sheet.specs.Sheet.{table_of}
+use Rattle.claims_sheet.specs.Instructions as Table
+use Rattle.claims_sheet.specs.Sheet.{table_of, lie}
 use Rattle.claims_sheet.specs.Answers.{is_instruction}
-use Rattle.claims_sheet.specs.Pep342.{at, held, enters, any_suspended, Passes}
+use Rattle.claims_sheet.specs.Pep342.{pays, at, held, enters, any_suspended, Passes}
 use Rattle.claims_sheet.specs.Pep342Departs.{Later, Escaped, Missed}
 use Rattle.claims_sheet.proofs.Among.{and_left, and_right, not-true}
 use Rattle.claims_sheet.proofs.Choice.{both}
 use Rattle.claims_sheet.proofs.Rules.{queues}
 use Rattle.claims_sheet.proofs.Moved.{coro-is}
 use Rattle.claims_sheet.proofs.Sheet.{leads-to}
-use Rattle.claims_sheet.proofs.Led.{past, here}
+use Rattle.claims_sheet.proofs.Led.{past, here, paid}
 use Rattle.claims_sheet.proofs.Walk.{none}
-use Rattle.claims_sheet.proofs.Pep342.{in_reach, send}
+use Rattle.claims_sheet.proofs.Pep342.{stepped, in_reach, send}
 use Rattle.claims_sheet.proofs.Pep342Ends.{ending}
 use Rattle.claims_sheet.proofs.Pep342Closes.{found-new}
 use Rattle.claims_sheet.proofs.Pep342Deletion.{deletion}
@@ -71,6 +72,36 @@ escaped =
     }
 
 -- ---- cleanups that do not come
+
+-- a charge whose search finds none
+module _ (w : World) (pc : ℕ) (g : searches w ≡ true) where
+  no-fuel : eqb w.fuel.fuel 0 ≡ true
+  no-fuel = and_left (eqb w.fuel.fuel 0) _ g
+
+  emptied-is : charged pc w ≡ fuelled (reserve w - 1) Opt.None false (with_finalizing false (with_finalize [] (pc_stored pc w)))
+  emptied-is = past (not (eqb w.fuel.fuel 0)) _ (ap not no-fuel) (past (not w.fuel.ready) _ (ap not (and_right (eqb w.fuel.fuel 0) _ g)) refl)
+
+module _ (w : World) (pc dst c : ℕ) (t : typed (Op.CoroCurrent pc dst) ≡ true) (q : w.finalize ≡ c ∷ []) (high : too_high (pc_stored pc w) c ≡ true) where
+  abbrev stored : World
+  stored = pc_stored pc w
+
+  none-ahead : queue_from stored w.finalize ≡ []
+  none-ahead = ap (queue_from stored) q ∙ past (closable stored c) _ (unclosable (is_coroutine (found stored c)) (suspended (state stored c)) (too_high stored c) high) refl
+
+  passes : sound w ≡ true → is_nil w.frames ≡ false → lie (dst ∷ []) w ≡ true → used_up w ≡ false → pays pc (lie (dst ∷ []) w) w ≡ true
+  passes s f l n = all (sound w) (is_nil w.frames) (lie (dst ∷ []) w) (used_up w) (searches w) (is_nil (queue_from stored w.finalize)) s f l n (ap is_nil none-ahead)
+    where
+      all : (a b e u g m : Bool) → a ≡ true → b ≡ false → e ≡ true → u ≡ false → m ≡ true → a && (not b && (e && (not u && not (g && not m)))) ≡ true
+      all true false true false true true p₁ p₂ p₃ p₄ p₅ = refl
+      all true false true false false true p₁ p₂ p₃ p₄ p₅ = refl
+      all false b e u g m p₁ p₂ p₃ p₄ p₅ = absurd (false≢true p₁)
+      all true true e u g m p₁ p₂ p₃ p₄ p₅ = absurd (true≢false p₂)
+      all true false false u g m p₁ p₂ p₃ p₄ p₅ = absurd (false≢true p₃)
+      all true false true true g m p₁ p₂ p₃ p₄ p₅ = absurd (true≢false p₄)
+      all true false true false g false p₁ p₂ p₃ p₄ p₅ = absurd (false≢true p₅)
+
+  told : pays pc (lie (dst ∷ []) w) w ≡ true → does w (operation (Op.CoroCurrent pc dst) t) ≡ after (put dst (Table.innermost (charged pc w).chain) (charged pc w)) (Answer.Stepped Step.Next (lost pc w))
+  told h = leads-to w _ ∙ (paid pc (lie (dst ∷ []) w) (Table.coro_current dst) w h ∙ stepped _ _ Step.Next (lost pc w) refl)
 
 -- the search comes to c, and passes it
 module _ (z : World) (c : ℕ) (behind : List ℕ) where
@@ -182,7 +213,13 @@ plainly n (Opt.Some m) ready spare e f h = cc
 pub missed : Missed
 missed =
     record {
-      never-closed = λ w o pc ok own before c behind t i e s f k n g q b waits high.
+      never-closed = λ w pc dst c t s snd f l n g q there mark high.
+          let u = (does w (operation (Op.CoroCurrent pc dst) t)).world in
+          let e : u ≡ put dst (Table.innermost (charged pc w).chain) (charged pc w) = ap (λ (y : After Answer). y.world) (told w pc dst c t q high (passes w pc dst c t q high snd f l n)) in
+          let gone : u.finalize ≡ [] = ap (λ (y : World). y.finalize) e ∙ ap (λ (y : World). y.finalize) (emptied-is w pc g) in
+          let same : found u c ≡ found w c = ap (λ y. found y c) e ∙ ap (λ y. found y c) (emptied-is w pc g) in
+          (gone, same, λ k. deletion.hand-over-refused u c s k (ap is_coroutine same ∙ there) (or-true (not (suspended (state u c))) _ (ap (λ o. (rest_of o).finalized) same ∙ mark)));
+      never-passed = λ w o pc ok own before c behind t i e s f k n g q b waits high.
           let u = (does w o).world in
           let m = mine w o pc ok own before c behind i e s f k n g q b waits high in
           let is = same w o pc ok own before c behind i e s f k n g q b waits high in (

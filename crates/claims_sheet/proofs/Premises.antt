@@ -40,6 +40,7 @@ premises =
       still-closing = refl;
       signal-later = refl;
       never-closed = refl;
+      never-passed = refl;
       spent = refl;
       unarmed = refl;
       sizes = refl;

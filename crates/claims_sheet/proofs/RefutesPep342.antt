@@ -212,23 +212,30 @@ still-closing : Later → (e : Engine) → Steps e → (pc dst c src : ℕ) (w :
 still-closing p e is pc dst c src w h t q wrong =
     wrong (ap (λ (x : Out). (rest_of (found x.world (held c pc w))).closing) (is w (Do (operation (Op.Resume pc dst c src) t))) ∙ (p.still-closing pc dst c src w h t q).0)
 
+-- a word stays in the queue
+never-closed : Missed → Steps (changing (with_finalize (7 ∷ []))) → (w : World) (pc dst c : ℕ) (t : typed (Op.CoroCurrent pc dst) ≡ true) (s : typed (Op.HandOver c) ≡ true) →
+    sound w ≡ true → is_nil w.frames ≡ false → lie (dst ∷ []) w ≡ true → used_up w ≡ false → searches w ≡ true → w.finalize ≡ c ∷ [] →
+    is_coroutine (found w c) ≡ true → (rest_of (found w c)).finalized ≡ true → too_high (pc_stored pc w) c ≡ true → ⊥
+never-closed p is w pc dst c t s a b d e f g h i j =
+    differ (ap (λ (x : Out). length x.world.finalize) (is w (Do (operation (Op.CoroCurrent pc dst) t))) ∙ ap (λ (xs : List ℕ). length xs) (p.never-closed w pc dst c t s a b d e f g h i j).0) refl
+
 -- what was passed: a word stays in the queue, it does, it is gone, a hand over of it is 10
 module _ (p : Missed) (w : World) (o : Operation) (pc : ℕ) (ok : Bool) (own : World → Lines Step) (before : List ℕ) (c : ℕ) (t : typed (Op.HandOver c) ≡ true) (i : is_instruction o.op ≡ true)
     (e : table_of o.op w ≡ instruction pc ok own w) (s : sound w ≡ true) (f : is_nil w.frames ≡ false) (k : ok ≡ true) (n : used_up w ≡ false) (g : searches w ≡ true)
     (q : w.finalize ≡ before ++ (c ∷ [])) (b : is_nil (queue_from (pc_stored pc w) before) ≡ true) (h : suspended (state w c) ≡ true) (j : too_high (pc_stored pc w) c ≡ true) where
-  never-closed : Steps (changing (with_finalize (7 ∷ []))) → ⊥
-  never-closed is = differ (ap (λ (x : Out). length x.world.finalize) (is w (Do o)) ∙ ap (λ (xs : List ℕ). length xs) (p.never-closed w o pc ok own before c [] t i e s f k n g q b h j).0) refl
+  never-passed : Steps (changing (with_finalize (7 ∷ []))) → ⊥
+  never-passed is = differ (ap (λ (x : Out). length x.world.finalize) (is w (Do o)) ∙ ap (λ (xs : List ℕ). length xs) (p.never-passed w o pc ok own before c [] t i e s f k n g q b h j).0) refl
 
   never-queued : Steps (changing (with_finalize (c ∷ []))) → ⊥
   never-queued is =
-      true≢false (sym (ap (λ x. x || false) (eq-eqb c c refl)) ∙ (ap (λ (x : Out). among c x.world.finalize) (is w (Do o)) ∙ (p.never-closed w o pc ok own before c [] t i e s f k n g q b h j).1))
+      true≢false (sym (ap (λ x. x || false) (eq-eqb c c refl)) ∙ (ap (λ (x : Out). among c x.world.finalize) (is w (Do o)) ∙ (p.never-passed w o pc ok own before c [] t i e s f k n g q b h j).1))
 
   never-gone : Steps (changing (with_slots [])) → is_coroutine (found w c) ≡ true → ⊥
   never-gone is l =
-      true≢false (sym l ∙ (ap is_coroutine (sym (ap (λ (x : Out). found x.world c) (is w (Do o)) ∙ (p.never-closed w o pc ok own before c [] t i e s f k n g q b h j).2)) ∙ both (λ y. is_coroutine y ≡ false) _ refl refl))
+      true≢false (sym l ∙ (ap is_coroutine (sym (ap (λ (x : Out). found x.world c) (is w (Do o)) ∙ (p.never-passed w o pc ok own before c [] t i e s f k n g q b h j).2)) ∙ both (λ y. is_coroutine y ≡ false) _ refl refl))
 
   never-again : Ten → sound (does w o).world ≡ true → ⊥
-  never-again is l = stopped Fault.OutOfFuel (does w o).world (operation (Op.HandOver c) t) is ((p.never-closed w o pc ok own before c [] t i e s f k n g q b h j).3 l) refl
+  never-again is l = stopped Fault.OutOfFuel (does w o).world (operation (Op.HandOver c) t) is ((p.never-passed w o pc ok own before c [] t i e s f k n g q b h j).3 l) refl
 
 spent : Missed → Nine → (w : World) (o : Operation) (pc : ℕ) (ok : Bool) (own : World → Lines Step) → table_of o.op w ≡ instruction pc ok own w → sound w ≡ true → is_nil w.frames ≡ false → ok ≡ true → used_up w ≡ true → ⊥
 spent p is w o pc ok own e s f k u = stopped Fault.OutOfMemory w o is (p.spent w o pc ok own e s f k u) refl

@@ -1,5 +1,5 @@
 -- PEP 342: what this machine does otherwise, over more than one call. The table of departures is docs/rules/PEP342.md.
-use Rattle.std.specs.Prelude.{ℕ, ◌-◌, ◌≡◌, Bool, true, false, ◌&&◌, List, ◌∷◌, ◌++◌, drop}
+use Rattle.std.specs.Prelude.{ℕ, ◌-◌, ◌≡◌, Bool, true, false, ◌&&◌, List, [], ◌∷◌, ◌++◌, drop}
 use Rattle.heap.specs.declared.fault.Fault.{Fault}
 use Rattle.heap.specs.declared.object.CoroState.{CoroState}
 use Rattle.heap.specs.declared.value.Opt.{Opt}
@@ -18,12 +18,12 @@ use Rattle.model.specs.declared.call.Answer.{Answer}
 use Rattle.claims_sheet.specs.Setters.{with_chain}
 use Rattle.claims_sheet.specs.Lines.{Lines}
 use Rattle.claims_sheet.specs.Does.{does, operation}
-use Rattle.claims_sheet.specs.Words.{found, rest_of, state, suspended, too_high}
+use Rattle.claims_sheet.specs.Words.{found, is_coroutine, rest_of, state, suspended, too_high}
 use Rattle.claims_sheet.specs.Moves.{pc_stored, sent, finished_with}
 use Rattle.claims_sheet.specs.Charging.{fuelled, used_up, bank_back, searches, queue_from, starts, charged, instruction}
 use Rattle.claims_sheet.specs.Endings.{popped}
 use Rattle.claims_sheet.specs.Unwinding.{takers, own_signal}
-use Rattle.claims_sheet.specs.Sheet.{table_of}
+use Rattle.claims_sheet.specs.Sheet.{table_of, lie}
 use Rattle.claims_sheet.specs.Answers.{is_instruction}
 use Rattle.claims_sheet.specs.Pep342.{at, held, enters, any_suspended, Passes}
 use Rattle.claims_sheet.specs.Pep342Ends.{thrown, Comes}
@@ -45,9 +45,15 @@ pub record Escaped : Type 0 where
 -- ---- cleanups that do not come
 
 pub record Missed : Type 0 where
+  -- a coroutine that was handed over, and does not fit when a charge searches, is off the queue and as it was; a hand over again is 3
+  pub never-closed : (w : World) (pc dst c : ℕ) (t : typed (Op.CoroCurrent pc dst) ≡ true) (s : typed (Op.HandOver c) ≡ true) →
+      sound w ≡ true → is_nil w.frames ≡ false → lie (dst ∷ []) w ≡ true → used_up w ≡ false → searches w ≡ true → w.finalize ≡ c ∷ [] →
+      is_coroutine (found w c) ≡ true → (rest_of (found w c)).finalized ≡ true → too_high (pc_stored pc w) c ≡ true →
+      let u = (does w (operation (Op.CoroCurrent pc dst) t)).world in
+      (u.finalize ≡ []) × (found u c ≡ found w c) × (sound u ≡ true → does u (operation (Op.HandOver c) s) ≡ after u (Answer.Refused Fault.InvalidCoroState))
   -- a suspended coroutine of the queue that a charge comes to, no word before it can be closed, and that does not fit: after the call, whichever instruction it is and
   -- whether or not a cleanup behind it starts, it is off the queue and as it was; a hand over again is 3
-  pub never-closed : (w : World) (o : Operation) (pc : ℕ) (ok : Bool) (own : World → Lines Step) (before : List ℕ) (c : ℕ) (behind : List ℕ) (t : typed (Op.HandOver c) ≡ true) →
+  pub never-passed : (w : World) (o : Operation) (pc : ℕ) (ok : Bool) (own : World → Lines Step) (before : List ℕ) (c : ℕ) (behind : List ℕ) (t : typed (Op.HandOver c) ≡ true) →
       is_instruction o.op ≡ true → table_of o.op w ≡ instruction pc ok own w → sound w ≡ true → is_nil w.frames ≡ false → ok ≡ true → used_up w ≡ false → searches w ≡ true →
       let z = pc_stored pc w in w.finalize ≡ before ++ (c ∷ behind) → is_nil (queue_from z before) ≡ true → suspended (state z c) ≡ true → too_high z c ≡ true → let u = (does w o).world in
       (u.finalize ≡ drop 1 (queue_from z behind)) × (among c u.finalize ≡ false) × (found u c ≡ found w c)

@@ -168,7 +168,10 @@ pub record Premises : Type 0 where
   -- Pep342Departs: it awaited inside its close, and is resumed; it is suspended with more than fits above the caller's frames; no unit is left, and then there are two
   pub still-closing : into (ignoring (Op.Await 60 0 0 ∷ [])) 4 1 0 2 (λ v u z. enters any_suspended v z && (rest_of (found z v)).closing) ≡ true
   pub signal-later : comes (ignoring (Op.Await 200 0 0 ∷ Op.Resume 4 1 0 2 ∷ [])) (Fault.Throw 9) 0 (λ v x u. is_nil (takers x u) && (is_body x.cont && (own_signal u.chain v u && (asks (driver u) && not (is_loop (driver u)))))) ≡ true
-  pub never-closed : missed tallest 0 c 0 && (missed tallest 1 d 0 && missed tall_and_low 0 c 1) ≡ true
+  pub never-closed : let w = run (running 1 (Op.FunctionCall 5 1 Cont.Discard ∷ Op.Yield 8 0 0 ∷ Op.FunctionCall 6 0 Cont.Discard ∷ Op.HandOver c ∷ [])) in
+      (not (is_nil w.frames) && (lie (0 ∷ []) w && (not (used_up w) && searches w))) && ((eqb (length w.finalize) 1 && eqb (get_or w.finalize 0 0) c)
+      && (is_coroutine (found w c) && ((rest_of (found w c)).finalized && too_high (pc_stored 4 w) c))) ≡ true
+  pub never-passed : missed tallest 0 c 0 && (missed tallest 1 d 0 && missed tall_and_low 0 c 1) ≡ true
   pub spent : let w = run fuel_used_up in sound w && (not (is_nil w.frames) && (used_up w && not (is_nil w.finalize))) ≡ true
   pub unarmed : let w = run (fuel_used_up ++ (Op.CoroCurrent 4 1 ∷ Op.Grant 2 ∷ [])) in is_none w.fuel.bank && (not (used_up w) && (w.fuel.ready && not (is_nil w.finalize))) ≡ true
   -- Mistakes: a body that has its creation's registers; a loop with one register for both
