@@ -20,15 +20,7 @@ abbrev After-regs_at-regs : Type 0
 After-regs_at-regs = lts.After-regs_at tie.the-claims reads.Pre reads.Post
 
 abbrev In-Row : Type 0
-In-Row = lts.After-known_told2 tie.the-claims reads.Pre reads.Post
-
--- `coro_create` meets the model, outcome by outcome. Assumes nothing.
--- the ways back that several clauses take
-abbrev regs-at-of : In-Row → After-regs_at-regs
-regs-at-of c = c.before.before.before.before
-
-abbrev start_of : After-regs_at-regs → Start
-start_of c = c.before.before.before.before.before
+In-Row = lts.Past-After-known_told2 tie.the-claims reads.Pre reads.Post
 
 abbrev mem : Start → Beside → Lent
 mem c b = making c.args.slots.now c.args.saved_stack.now c.args.saved_frames.now c.args.setup.now plain b
@@ -44,13 +36,13 @@ abbrev row : In-Row → ℕ
 row c = c.in-Row.row
 
 found : (c : In-Row) →
-    let a = (start_of (regs-at-of c)).args in Spot.Row (row c) ≡ spot_of (slots_of a.m.count a.slots.now) a.m a.sizes (regs-at-of c).regs-at.result
+    let a = c.args in Spot.Row (row c) ≡ spot_of (slots_of a.m.count a.slots.now) a.m a.sizes c.regs_at-regs.result
 found c = sym c.in-Row.is ∙ c.find_spot.ensures
 
-told : (c : After-regs_at-regs) → Numbers (start_of c).args.sizes c.regs_at-regs.result
+told : (c : After-regs_at-regs) → Numbers c.args.sizes c.regs_at-regs.result
 told c =
-    let start = start_of c in let a = start.args in let o = start.requires.ok in
-    numbers a.sizes (mem start o.beside) a.m o.beside.fuel o.world o.rep a.f o.sound start.requires.function c.regs_at-regs.result c.regs_at-regs.ensures
+    let a = c.args in let o = c.requires.ok in
+    numbers a.sizes (mem c.before.before.before.before.before o.beside) a.m o.beside.fuel o.world o.rep a.f o.sound c.requires.function c.regs_at-regs.result c.regs_at-regs.ensures
 
 pub regs_at-regs-requires : goal.regs_at-regs-requires
 regs_at-regs-requires c =
@@ -58,45 +50,44 @@ regs_at-regs-requires c =
     in-setup a.sizes (mem c.before.before.before.before.before o.beside) a.m o.beside.fuel o.world o.rep a.f o.sound c.requires.function o.room
 
 pub find_spot-requires : goal.find_spot-requires
-find_spot-requires c = let k = told c.before in record { words = (start_of c.before).requires.ok.rep.slots.within; rows = k.rows; bytes = k.first }
+find_spot-requires c = let k = told c.before in record { words = c.requires.ok.rep.slots.within; rows = k.rows; bytes = k.first }
 
 pub bytes-charge-requires : goal.bytes-charge-requires
-bytes-charge-requires c = (told (regs-at-of c.before.before.before.before)).second
+bytes-charge-requires c = (told c.before.before.before.before.before.before).second
 
 pub alloc-requires : goal.alloc-requires
 alloc-requires c =
-    let at-regs-at = regs-at-of c.before.before.before.before.before.before.before in let start = start_of at-regs-at in
-    let e : c.heap_of.result.slots ≡ start.args.sizes.slots = ap (λ x. x.slots) c.heap_of.ensures in
-    let k = (told at-regs-at).slots in let r = room start in
+    let e : c.heap_of.result.slots ≡ c.args.sizes.slots = ap (λ x. x.slots) c.heap_of.ensures in
+    let k = (told c.before.before.before.before.before.before.before.before.before).slots-1 in let r = room c.before.before.before.before.before.before.before.before.before.before.before.before.before.before in
     record { words = omega arith; slots = omega arith }
 
 pub write_row-requires : goal.write_row-requires
 write_row-requires c =
-    let at-regs-at = regs-at-of c.before.before.before.before.before.before.before.before.before.before.before.before.before.before.before in let start = start_of at-regs-at in let a = start.args in let o = start.requires.ok in
-    write-fits a.sizes (mem start o.beside) a.m o.beside.fuel o.world o.rep o.sound a.f a.closure a.n at-regs-at.regs-at.result a.args
-    (few start) start.requires.function at-regs-at.regs-at.ensures (row c.before.before.before.before.before.before.before.before.before.before.before.before.before.before.before) (found c.before.before.before.before.before.before.before.before.before.before.before.before.before.before.before) start.requires.few
+    let a = c.args in let o = c.requires.ok in
+    write-fits a.sizes (mem c.before.before.before.before.before.before.before.before.before.before.before.before.before.before.before.before.before.before.before.before o.beside) a.m o.beside.fuel o.world o.rep o.sound a.f a.closure a.n c.regs_at-regs.result a.args
+    (few c.before.before.before.before.before.before.before.before.before.before.before.before.before.before.before.before.before.before.before.before) c.requires.function c.regs_at-regs.ensures (row c.before.before.before.before.before.before.before.before.before.before.before.before.before) (found c.before.before.before.before.before.before.before.before.before.before.before.before.before) c.requires.few
 
 pub returns-in-Lacks : goal.returns-in-Lacks
 returns-in-Lacks c =
-    let start = start_of c.before.before.before.before.before in let a = start.args in
+    let a = c.args in
     λ w b rep snd.
-    not-created a.sizes (mem start b) a.m b.fuel w rep snd a.f a.closure a.n c.regs_at-regs.result a.args
-    (few start) start.requires.function c.regs_at-regs.ensures _ (sym c.in-Lacks.is ∙ c.find_spot.ensures)
+    not-created a.sizes (mem c.before.before.before.before.before.before.before.before b) a.m b.fuel w rep snd a.f a.closure a.n c.regs_at-regs.result a.args
+    (few c.before.before.before.before.before.before.before.before) c.requires.function c.regs_at-regs.ensures _ (sym c.in-Lacks.is ∙ c.find_spot.ensures)
 
 pub returns-in-Refused : goal.returns-in-Refused
 returns-in-Refused c =
-    let at-regs-at = regs-at-of c.before.before.before.before.before.before.before.before.before.before.before.before.before in let start = start_of at-regs-at in let a = start.args in
+    let a = c.args in
     λ w b rep snd.
-    not-charged a.sizes (mem start b) a.m b.fuel w rep snd a.f a.closure a.n at-regs-at.regs-at.result a.args
-    (few start) start.requires.function at-regs-at.regs-at.ensures (row c.before.before.before.before.before.before.before.before.before.before.before.before.before) (found c.before.before.before.before.before.before.before.before.before.before.before.before.before) _ c.sequenced-q.result _ c.sequenced-q.ensures
+    not-charged a.sizes (mem c.before.before.before.before.before.before.before.before.before.before.before.before.before.before.before.before.before.before b) a.m b.fuel w rep snd a.f a.closure a.n c.regs_at-regs.result a.args
+    (few c.before.before.before.before.before.before.before.before.before.before.before.before.before.before.before.before.before.before) c.requires.function c.regs_at-regs.ensures (row c.before.before.before.before.before.before.before.before.before.before.before) (found c.before.before.before.before.before.before.before.before.before.before.before) _ c.sequenced-q.result _ c.sequenced-q.ensures
     (alloc_told a.slots.now _ _ _ _ _ _ _ _ _ c.alloc.ensures c.in-Refused.is
     (c.heap_of.ensures ∙ ap (λ q. heap_of q a.sizes) c.sequenced-q.ensures) c.bytes-charge.ensures c.new_object.ensures)
 
 pub returns-in-Done : goal.returns-in-Done
 returns-in-Done c =
-    let at-regs-at = regs-at-of c.before.before.before.before.before.before.before.before.before.before.before.before.before.before.before.before.before.before.before.before.before in let start = start_of at-regs-at in let a = start.args in
+    let a = c.args in
     λ w b rep snd.
-    was-created a.sizes (mem start b) a.m b.fuel w rep snd a.f a.closure a.n at-regs-at.regs-at.result a.args
-    (few start) start.requires.function at-regs-at.regs-at.ensures (row c.before.before.before.before.before.before.before.before.before.before.before.before.before.before.before.before.before.before.before.before.before) (found c.before.before.before.before.before.before.before.before.before.before.before.before.before.before.before.before.before.before.before.before.before) _ (room start) c.sequenced-q.result c.allocated.result _ _ _ _
+    was-created a.sizes (mem c.before.before.before.before.before.before.before.before.before.before.before.before.before.before.before.before.before.before.before.before.before.before.before.before.before.before b) a.m b.fuel w rep snd a.f a.closure a.n c.regs_at-regs.result a.args
+    (few c.before.before.before.before.before.before.before.before.before.before.before.before.before.before.before.before.before.before.before.before.before.before.before.before.before.before) c.requires.function c.regs_at-regs.ensures (row c.before.before.before.before.before.before.before.before.before.before.before.before.before.before.before.before.before.before.before) (found c.before.before.before.before.before.before.before.before.before.before.before.before.before.before.before.before.before.before.before) _ (room c.before.before.before.before.before.before.before.before.before.before.before.before.before.before.before.before.before.before.before.before.before.before.before.before.before.before) c.sequenced-q.result c.allocated.result _ _ _ _
     c.sequenced-q.ensures c.allocated.ensures (alloc_told a.slots.now _ _ _ _ _ _ _ _ _ c.alloc.ensures c.in-Done.is
     (c.heap_of.ensures ∙ ap (λ q. heap_of q a.sizes) c.sequenced-q.ensures) c.bytes-charge.ensures c.new_object.ensures) c.write_row.ensures

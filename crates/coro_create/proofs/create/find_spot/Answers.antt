@@ -9,41 +9,26 @@ use Rattle.coro_create.proofs.create.find_spot.Reads as reads
 use Rattle.coro_create.proofs.create.find_spot.Tie as tie
 use Rattle.coro_create.proofs.create.find_spot.Goals as goal
 
-abbrev Start : Type 0
-Start = lts.Start tie.the-claims reads.Pre reads.Post
-
-abbrev After-lacks-fault : Type 0
-After-lacks-fault = lts.After-lacks tie.the-claims reads.Pre reads.Post
-
 abbrev After-number : Type 0
 After-number = lts.After-number tie.the-claims reads.Pre reads.Post
 
--- `find_spot` meets its contract, by its tests in order. Assumes nothing.
--- the ways back that several clauses take
-abbrev start_of : After-lacks-fault → Start
-start_of c = c.before.before.before.before.before
-
 -- what is lacking for the first test
 fault : (c : After-number) →
-    let start = start_of c.before in
-    c.lacks-fault.result ≡ lacks_of (heap_of start.args.m start.args.sizes) (bytes_of start.args.regs start.args.sizes.costs.coro start.args.sizes.costs.frame)
+    c.lacks-fault.result ≡ lacks_of (heap_of c.args.m c.args.sizes) (bytes_of c.args.regs c.args.sizes.costs.coro c.args.sizes.costs.frame)
 fault c =
     c.lacks-fault.ensures ∙ ap₂ lacks_of c.heap_of-h.ensures c.bytes.ensures
 
 pub returns-then-number-ne0 : goal.returns-then-number-ne0
 returns-then-number-ne0 c =
-    let start = start_of c.before.before.before in
-    spot-lacks (slots_of start.args.m.count start.args.slots.now) start.args.m start.args.sizes start.args.regs c.lacks-fault.result
+    spot-lacks (slots_of c.args.m.count c.args.slots.now) c.args.m c.args.sizes c.args.regs c.lacks-fault.result
     (fault c.before.before) (λ z. c.if-number-ne0.true (c.number.ensures ∙ z))
 
 pub returns-then-sizes-row : goal.returns-then-sizes-row
 returns-then-sizes-row c =
-    let start = start_of c.before.before.before.before.before.before in
-    spot-full (slots_of start.args.m.count start.args.slots.now) start.args.m start.args.sizes start.args.regs c.lacks-fault.result
+    spot-full (slots_of c.args.m.count c.args.slots.now) c.args.m c.args.sizes c.args.regs c.lacks-fault.result
     (fault c.before.before.before.before.before) (sym c.number.ensures ∙ c.if-number-ne0.false) c.lowest_free_row-row.result c.lowest_free_row-row.ensures c.if-sizes-row.true
 
 pub returns : goal.returns
 returns c =
-    let start = start_of c.before.before.before.before.before.before in
-    spot-row (slots_of start.args.m.count start.args.slots.now) start.args.m start.args.sizes start.args.regs c.lacks-fault.result
+    spot-row (slots_of c.args.m.count c.args.slots.now) c.args.m c.args.sizes c.args.regs c.lacks-fault.result
     (fault c.before.before.before.before.before) (sym c.number.ensures ∙ c.if-number-ne0.false) c.lowest_free_row-row.result c.lowest_free_row-row.ensures c.if-sizes-row.false

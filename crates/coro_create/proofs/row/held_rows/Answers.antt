@@ -9,14 +9,13 @@ use Rattle.heap.specs.declared.object.Object as H
 use Rattle.heap.specs.declared.object.Object.TheVariants as O
 use Rattle.coro_create.specs.Row.{row_of, marked}
 use Rattle.coro_create.proofs.Held.{mark-next, mark-none}
-use Rattle.coro_create.proofs.row.held_rows.Invariants as inv
 use Rattle.coro_create.proofs.row.held_rows.Lts as lts
 use Rattle.coro_create.proofs.row.held_rows.Reads as reads
 use Rattle.coro_create.proofs.row.held_rows.Tie as tie
 use Rattle.coro_create.proofs.row.held_rows.Goals as goal
 
 abbrev Joined-row-lt-NONE : Type 0
-Joined-row-lt-NONE = lts.Joined1 tie.the-claims reads.Pre reads.Post inv.invariant-loop-i inv.decreases-loop-i
+Joined-row-lt-NONE = lts.Joined1 tie.the-claims reads.Pre reads.Post goal.the-invariant-loop-i goal.the-decreases-loop-i
 
 -- `held_rows` meets its contract: what is left, marked on the present marks, is the whole marked on none. Assumes nothing.
 abbrev none : List Bool

@@ -7,40 +7,23 @@ use Rattle.memory_world.specs.Lendings.{plain}
 use Rattle.memory_world.proofs.Does.{SameLengths}
 use Rattle.coro_end.specs.Last.{ending}
 use Rattle.coro_end.proofs.Failing.{along-start, along-none, along-fewer, along-more}
-use Rattle.coro_end.proofs.abort.fail_all.Invariants as inv
 use Rattle.coro_end.proofs.abort.fail_all.Lts as lts
 use Rattle.coro_end.proofs.abort.fail_all.Reads as reads
 use Rattle.coro_end.proofs.abort.fail_all.Tie as tie
 use Rattle.coro_end.proofs.abort.fail_all.Goals as goal
 
-abbrev Start : Type 0
-Start = lts.Start tie.the-claims reads.Pre reads.Post inv.invariant-loop-n inv.decreases-loop-n
-
 abbrev At-loop-n : Type 0
-At-loop-n = lts.At-loop tie.the-claims reads.Pre reads.Post inv.invariant-loop-n inv.decreases-loop-n
+At-loop-n = lts.At-loop tie.the-claims reads.Pre reads.Post goal.the-invariant-loop-n goal.the-decreases-loop-n
 
 abbrev After-end_last-n : Type 0
-After-end_last-n = lts.After-end_last tie.the-claims reads.Pre reads.Post inv.invariant-loop-n inv.decreases-loop-n
-
-abbrev After-slice_known-in-loop-n-4-1 : Type 0
-After-slice_known-in-loop-n-4-1 = lts.After-slice_known8 tie.the-claims reads.Pre reads.Post inv.invariant-loop-n inv.decreases-loop-n
-
--- the ways back that several clauses take, and the words there
-abbrev start_of : At-loop-n → Start
-start_of c = c.before.before.before.before.before
-
-abbrev loop-of : After-end_last-n → At-loop-n
-loop-of c = c.before.before.before.before.before.before.before
-
-abbrev end_of : After-slice_known-in-loop-n-4-1 → After-end_last-n
-end_of c = c.before.before.before.before.before.before.before.before
+After-end_last-n = lts.After-end_last tie.the-claims reads.Pre reads.Post goal.the-invariant-loop-n goal.the-decreases-loop-n
 
 abbrev at-end : After-end_last-n → Beside → Lent
 at-end c = let e = c.end_last-n.new in ending e.0 e.1.0 e.1.1.0 e.1.1.1.0 plain
 
 so_far : (c : At-loop-n) →
-    let a = (start_of c).args in let n = c.loop-n in let b = n.invariant.some.beside in
-    SameLengths (ending a.chain.now a.slots.now a.saved-stack.now a.saved-frames.now plain b) (ending n.chain n.slots n.saved-stack n.saved-frames plain b)
+    let a = c.args in let n = c.loop-n in let b = n.invariant.some.beside in
+    SameLengths (ending a.chain.now a.slots.now a.saved_stack.now a.saved_frames.now plain b) (ending n.chain n.slots n.saved-stack n.saved-frames plain b)
 so_far c = c.loop-n.invariant.kept c.loop-n.invariant.some.beside
 
 pub loop-n-init : goal.loop-n-init
@@ -52,27 +35,25 @@ pub end_last-n-requires : goal.end_last-n-requires
 end_last-n-requires c = record { held = c.loop-n.invariant.some; ends = refl }
 
 pub loop-n-smaller : goal.loop-n-smaller
-loop-n-smaller c =
-    let did = end_of c.before in
-    along-fewer (loop-of did).loop.inv (omega (arith, did.before.before.before.before.before.if1.taken)) (at-end did) did.end-last.result did.end-last.ensures
+loop-n-smaller c = along-fewer c.loop-n.inv (omega (arith, c.loop-n-test.true)) (at-end c.before.before.before.before.before.before.before.before.before) c.end_last-n.result c.end_last-n.ensures
 
 pub loop-n-preserved : goal.loop-n-preserved
 loop-n-preserved c =
-    let did = end_of c.before in let k = did.end-last.kept in
-    along-more (loop-of did).loop.inv (omega (arith, did.before.before.before.before.before.if1.taken)) (at-end did) did.end-last.result did.end-last.ensures
+    let k = c.end_last-n.kept in
+    along-more c.loop-n.inv (omega (arith, c.loop-n-test.true)) (at-end c.before.before.before.before.before.before.before.before.before) c.end_last-n.result c.end_last-n.ensures
     (λ b. record { stack = refl; frames = refl; chain = k.0; slots = k.1.0; saved_stack = k.1.1.0; saved_frames = k.1.1.1.0; ready = refl; finalize = refl; setup = refl })
 
 pub shape_of-chain : goal.shape_of-chain
-shape_of-chain c = (so_far c.before.before).chain
+shape_of-chain c = (so_far c.before.before).chain-1
 
 pub shape_of-slots : goal.shape_of-slots
-shape_of-slots c = (so_far c.before.before).slots
+shape_of-slots c = (so_far c.before.before).slots-1
 
 pub shape_of-saved_stack : goal.shape_of-saved_stack
-shape_of-saved_stack c = (so_far c.before.before).saved_stack
+shape_of-saved_stack c = (so_far c.before.before).saved_stack-1
 
 pub shape_of-saved_frames : goal.shape_of-saved_frames
-shape_of-saved_frames c = (so_far c.before.before).saved_frames
+shape_of-saved_frames c = (so_far c.before.before).saved_frames-1
 
 pub returns : goal.returns
 returns c = along-none c.loop-n.invariant (omega (arith, c.loop-n-test.false))

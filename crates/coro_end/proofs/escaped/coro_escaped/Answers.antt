@@ -8,41 +8,26 @@ use Rattle.memory_world.specs.Lendings.{lent}
 use Rattle.coro_end.specs.Last.{end_last}
 use Rattle.coro_end.proofs.Innermost.{last}
 use Rattle.coro_end.proofs.Homecoming.{none-escaped, close-succeeds, fails, end_fits}
-use Rattle.coro_end.proofs.escaped.coro_escaped.Lts as lts
-use Rattle.coro_end.proofs.escaped.coro_escaped.Reads as reads
-use Rattle.coro_end.proofs.escaped.coro_escaped.Tie as tie
 use Rattle.coro_end.proofs.escaped.coro_escaped.Goals as goal
-
-abbrev Start : Type 0
-Start = lts.Start tie.the-claims reads.Pre reads.Post
-
-abbrev After-struct_known-1 : Type 0
-After-struct_known-1 = lts.After-struct_known tie.the-claims reads.Pre reads.Post
-
--- `coro_escaped` meets the definition: no coroutine, a close that succeeds, a failure. Assumes nothing.
--- the ways back that several clauses take
-abbrev start_of : After-struct_known-1 → Start
-start_of c = c.before.before.before.before.before.before.before
 
 pub returns-then-m-eq0 : goal.returns-then-m-eq0
 returns-then-m-eq0 c =
-    let a = (start_of c.before.before).args in
+    let a = c.args in
     λ w b rep rowed.
-    none-escaped a.sizes (lent a.stack.now a.frames.now a.chain.now a.slots.now a.saved-stack.now a.saved-frames.now b) a.m a.fuel
+    none-escaped a.sizes (lent a.stack.now a.frames.now a.chain.now a.slots.now a.saved_stack.now a.saved_frames.now b) a.m a.fuel
     w a.value a.func a.pc rep c.if-m-eq0.true
 
 pub closed_by-requires : goal.closed_by-requires
-closed_by-requires c = (start_of c.before.before.before.before).requires.held.rep.slots.within
+closed_by-requires c = c.requires.held.rep.slots.within
 
 pub returns-then-closed_by : goal.returns-then-closed_by
 returns-then-closed_by c =
-    let start = start_of c.before.before.before.before.before.before.before.before.before.before.before.before.before.before.before.before.before.before.before.before.before.before.before.before.before.before.before in
-    let a = start.args in
+    let a = c.args in
     let x = c.active_at-last.result in
     let f = c.coro_returned-did in
     let active : 1 ≤ a.m.active = omega (arith, c.if-m-eq0.false) in
     λ w b rep rowed.
-    let M = lent a.stack.now a.frames.now a.chain.now a.slots.now a.saved-stack.now a.saved-frames.now b in
+    let M = lent a.stack.now a.frames.now a.chain.now a.slots.now a.saved_stack.now a.saved_frames.now b in
     let t = last a.sizes M a.m a.fuel w rep x active c.active_at-last.ensures in
     let closed = sym (c.closed_by.ensures a.sizes w (record { words = M; fuel = a.fuel }) rep) ∙ c.if-closed_by.true in
     close-succeeds a.sizes (lent f.new.stack f.new.frames f.new.chain f.new.slots f.new.saved_stack f.new.saved_frames b)
@@ -50,9 +35,8 @@ returns-then-closed_by c =
 
 pub end_last-n-requires : goal.end_last-n-requires
 end_last-n-requires c =
-    let start = start_of c.before.before.before.before.before.before.before.before.before.before in
-    let a = start.args in
-    end_fits a.sizes a.m a.stack.now a.frames.now a.chain.now a.slots.now a.saved-stack.now a.saved-frames.now start.requires CoroState.Failed refl
+    let a = c.args in
+    end_fits a.sizes a.m a.stack.now a.frames.now a.chain.now a.slots.now a.saved_stack.now a.saved_frames.now c.requires CoroState.Failed refl
 
 pub returns : goal.returns
 returns c =

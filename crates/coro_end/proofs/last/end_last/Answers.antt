@@ -11,7 +11,7 @@ pub returns-then-m-eq0 : goal.returns-then-m-eq0
 returns-then-m-eq0 c =
     let a = c.args in
     λ w b rep rowed. none-ends-last a.sizes (ending a.chain.now a.slots.now a.saved_stack.now a.saved_frames.now plain b) a.m b.fuel w rep
-    a.s a.result c.if-m-eq0.true
+    a.s a.res c.if-m-eq0.true
 
 pub finish_coroutine-requires : goal.finish_coroutine-requires
 finish_coroutine-requires c =
@@ -31,5 +31,5 @@ returns c =
     let t = last a.sizes M a.m b.fuel w rep x some c.active_at-last.ensures in
     let p = popped a.sizes M a.m b.fuel w rep x t c.pop_active.new.chain c.pop_active.ensures in
     let f = c.finish_coroutine in
-    ends_last a.sizes (ending c.pop_active.new.chain f.new.slots f.new.saved_stack f.new.saved_frames plain b) _ b.fuel w a.s a.result x t
+    ends_last a.sizes (ending c.pop_active.new.chain f.new.slots f.new.saved_stack f.new.saved_frames plain b) _ b.fuel w a.s a.res x t
     (f.ensures _ (record { words = on_chain c.pop_active.new.chain b.words; fuel = b.fuel }) p rowed)

@@ -8,55 +8,38 @@ use Rattle.memory_world.specs.Lendings.{lent}
 use Rattle.coro_end.specs.Last.{end_last}
 use Rattle.coro_end.proofs.Innermost.{last}
 use Rattle.coro_end.proofs.Homecoming.{none-active, returned, end_fits, return_fits}
-use Rattle.coro_end.proofs.returned.coro_returned.Lts as lts
-use Rattle.coro_end.proofs.returned.coro_returned.Reads as reads
-use Rattle.coro_end.proofs.returned.coro_returned.Tie as tie
 use Rattle.coro_end.proofs.returned.coro_returned.Goals as goal
-
-abbrev Start : Type 0
-Start = lts.Start tie.the-claims reads.Pre reads.Post
-
-abbrev After-struct_known-1 : Type 0
-After-struct_known-1 = lts.After-struct_known tie.the-claims reads.Pre reads.Post
-
--- `coro_returned` meets the definition, whether a coroutine is active or not. Assumes nothing.
--- the ways back that several clauses take
-abbrev start_of : After-struct_known-1 → Start
-start_of c = c.before.before.before.before.before.before.before
 
 pub returns-then-m-eq0 : goal.returns-then-m-eq0
 returns-then-m-eq0 c =
-    let a = (start_of c.before.before).args in
+    let a = c.args in
     λ w b rep rowed.
-    none-active a.sizes (lent a.stack.now a.frames.now a.chain.now a.slots.now a.saved-stack.now a.saved-frames.now b) a.m a.fuel w
+    none-active a.sizes (lent a.stack.now a.frames.now a.chain.now a.slots.now a.saved_stack.now a.saved_frames.now b) a.m a.fuel w
     a.value rep c.if-m-eq0.true
 
 pub end_last-n-requires : goal.end_last-n-requires
 end_last-n-requires c =
-    let start = start_of c.before.before.before.before.before.before.before.before in
-    let a = start.args in
-    end_fits a.sizes a.m a.stack.now a.frames.now a.chain.now a.slots.now a.saved-stack.now a.saved-frames.now start.requires CoroState.Returned refl
+    let a = c.args in
+    end_fits a.sizes a.m a.stack.now a.frames.now a.chain.now a.slots.now a.saved_stack.now a.saved_frames.now c.requires CoroState.Returned refl
 
 pub deliver_return-requires : goal.deliver_return-requires
 deliver_return-requires c =
-    let start = start_of c.before.before.before.before.before.before.before.before.before.before.before.before.before.before.before.before.before.before.before.before in
-    let a = start.args in
+    let a = c.args in
     let f = c.end_last-n in
     let some : 1 ≤ a.m.active = omega (arith, c.if-m-eq0.false) in
-    return_fits a.sizes a.m a.stack.now a.frames.now a.chain.now a.slots.now a.saved-stack.now a.saved-frames.now start.requires
+    return_fits a.sizes a.m a.stack.now a.frames.now a.chain.now a.slots.now a.saved_stack.now a.saved_frames.now c.requires
     c.active_at-last.result some c.active_at-last.ensures
     f.new.chain f.new.slots f.new.saved_stack f.new.saved_frames f.result CoroState.Returned a.value f.ensures
 
 pub returns : goal.returns
 returns c =
-    let start = start_of c.before.before.before.before.before.before.before.before.before.before.before.before.before.before.before.before.before.before.before.before.before.before.before.before.before.before.before in
-    let a = start.args in
+    let a = c.args in
     let x = c.active_at-last.result in
     let f = c.end_last-n in
     let g = c.deliver_return in
     let some : 1 ≤ a.m.active = omega (arith, c.if-m-eq0.false) in
     λ w b rep rowed.
-    let t = last a.sizes (lent a.stack.now a.frames.now a.chain.now a.slots.now a.saved-stack.now a.saved-frames.now b) a.m a.fuel
+    let t = last a.sizes (lent a.stack.now a.frames.now a.chain.now a.slots.now a.saved_stack.now a.saved_frames.now b) a.m a.fuel
     w rep x some c.active_at-last.ensures in
     let e = f.ensures w (record { words = on_stack a.stack.now (on_frames a.frames.now b.words); fuel = a.fuel }) rep rowed in
     let d =

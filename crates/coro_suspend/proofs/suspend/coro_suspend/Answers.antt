@@ -19,24 +19,10 @@ Start = lts.Start tie.the-claims reads.Pre reads.Post
 abbrev Else-m-eq0 : Type 0
 Else-m-eq0 = lts.Else1 tie.the-claims reads.Pre reads.Post
 
-abbrev After-suspend_found : Type 0
-After-suspend_found = lts.After-suspend_found tie.the-claims reads.Pre reads.Post
-
-abbrev After-slice_known-in-At-6-1 : Type 0
-After-slice_known-in-At-6-1 = lts.After-slice_known12 tie.the-claims reads.Pre reads.Post
-
--- `coro_suspend` meets the model, outcome by outcome. Assumes nothing.
--- the ways back that several clauses take
-abbrev suspend-found-of : After-slice_known-in-At-6-1 → After-suspend_found
-suspend-found-of c = c.before.before.before.before.before.before.before.before.before.before.before.before
-
-abbrev start_of : Else-m-eq0 → Start
-start_of c = c.before.before.before.before.before.before.before.before
-
 abbrev mem : Start → Beside → Lent
 mem c b = lent c.args.stack.now c.args.frames.now c.args.chain.now c.args.slots.now c.args.saved_stack.now c.args.saved_frames.now b
 
-some : (c : Else-m-eq0) → 1 ≤ (start_of c).args.m.active
+some : (c : Else-m-eq0) → 1 ≤ c.args.m.active
 some c = let h = c.if-m-eq0.false in omega arith
 
 pub returns-then-m-eq0 : goal.returns-then-m-eq0
@@ -44,57 +30,53 @@ returns-then-m-eq0 c = λ w b rep snd. idle c.args.sizes (mem c.before.before.be
 
 pub returns-then-m-a : goal.returns-then-m-a
 returns-then-m-a c =
-    let start = start_of c.before.before.before.before.before in
-    λ w b rep snd. no-frame start.args.sizes (mem start b) start.args.m b.fuel start.args.state start.args.dst start.args.payload
-    start.args.keys w rep c.active_at-a.result (some c.before.before.before.before.before) c.active_at-a.ensures c.if-m-a.true
+    λ w b rep snd. no-frame c.args.sizes (mem c.before.before.before.before.before.before.before.before.before.before.before.before.before b) c.args.m b.fuel c.args.state c.args.dst c.args.payload
+    c.args.keys w rep c.active_at-a.result (some c.before.before.before.before.before) c.active_at-a.ensures c.if-m-a.true
 
 pub coro_place-requires : goal.coro_place-requires
-coro_place-requires c = (start_of c.before.before.before.before.before).requires.ok.rep.slots.within
+coro_place-requires c = c.requires.ok.rep.slots.within
 
 pub coro_at-c-requires : goal.coro_at-c-requires
 coro_at-c-requires c =
-    let start = start_of c.before.before.before.before.before.before.before.before.before in
-    stands-words start.args.m.count start.args.slots.now c.active_at-a.result.coro c.in-At.i
-    (sym c.in-At.is ∙ c.coro_place.ensures) start.requires.ok.rep.slots.within
+    stands-words c.args.m.count c.args.slots.now c.active_at-a.result.coro c.in-At.i
+    (sym c.in-At.is ∙ c.coro_place.ensures) c.requires.ok.rep.slots.within
 
 pub suspend_found-requires : goal.suspend_found-requires
 suspend_found-requires c =
-    let start = start_of c.before.before.before.before.before.before.before.before.before.before.before.before.before.before.before in
     record {
-      ok = start.requires.ok;
-      state = start.requires.state;
-      some = some c.before.before.before.before.before.before.before.before.before.before.before.before.before.before.before;
+      ok = c.requires.ok;
+      state = c.requires.state;
+      some = some c.before.before.before.before.before.before.before.before.before.before.before.before.before;
       top = c.active_at-a.ensures;
       floor = c.if-m-a.false;
-      coro = ap (RV.At c.in-At.i) c.coro_at-c.ensures ∙ (stands start.args.m.count start.args.slots.now
+      coro = ap (RV.At c.in-At.i) c.coro_at-c.ensures ∙ (stands c.args.m.count c.args.slots.now
           c.active_at-a.result.coro c.in-At.i (sym c.in-At.is ∙ c.coro_place.ensures)).coro;
     }
 
 pub returns-in-Not : goal.returns-in-Not
 returns-in-Not c =
-    let start = start_of c.before.before.before.before.before.before.before.before in
-    λ w b rep snd. not_found start.args.sizes (mem start b) start.args.m b.fuel start.args.state start.args.dst start.args.payload
-    start.args.keys w rep c.active_at-a.result (some c.before.before.before.before.before.before.before.before) c.active_at-a.ensures c.if-m-a.false _
-    (none-there (coro_of (slots_of start.args.m.count start.args.slots.now) c.active_at-a.result.coro) c.in-Not.field-0
+    λ w b rep snd. not_found c.args.sizes (mem c.before.before.before.before.before.before.before.before.before.before.before.before.before.before.before b) c.args.m b.fuel c.args.state c.args.dst c.args.payload
+    c.args.keys w rep c.active_at-a.result (some c.before.before.before.before.before.before.before) c.active_at-a.ensures c.if-m-a.false _
+    (none-there (coro_of (slots_of c.args.m.count c.args.slots.now) c.active_at-a.result.coro) c.in-Not.field-0
     (sym c.in-Not.is ∙ c.coro_place.ensures))
 
 pub shape_of-stack : goal.shape_of-stack
-shape_of-stack c = (suspend-found-of c.before).suspend-found.auto.0
+shape_of-stack c = c.suspend_found.auto.stack
 
 pub shape_of-frames : goal.shape_of-frames
-shape_of-frames c = (suspend-found-of c.before).suspend-found.auto.1.0
+shape_of-frames c = c.suspend_found.auto.frames
 
 pub shape_of-chain-in-At : goal.shape_of-chain-in-At
-shape_of-chain-in-At c = (suspend-found-of c.before).suspend-found.auto.1.1.0
+shape_of-chain-in-At c = c.suspend_found.auto.chain
 
 pub shape_of-slots-in-At : goal.shape_of-slots-in-At
-shape_of-slots-in-At c = (suspend-found-of c.before).suspend-found.auto.1.1.1.0
+shape_of-slots-in-At c = c.suspend_found.auto.slots
 
 pub shape_of-saved_stack : goal.shape_of-saved_stack
-shape_of-saved_stack c = (suspend-found-of c.before).suspend-found.auto.1.1.1.1.0
+shape_of-saved_stack c = c.suspend_found.auto.saved_stack
 
 pub shape_of-saved_frames : goal.shape_of-saved_frames
-shape_of-saved_frames c = (suspend-found-of c.before).suspend-found.auto.1.1.1.1.1.0
+shape_of-saved_frames c = c.suspend_found.auto.saved_frames
 
 pub returns-in-At : goal.returns-in-At
-returns-in-At c = (suspend-found-of c.before).suspend-found.ensures
+returns-in-At c = c.suspend_found.ensures
