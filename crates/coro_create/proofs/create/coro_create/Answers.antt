@@ -58,7 +58,7 @@ bytes-charge-requires c = (told c.before.before.before.before.before.before).sec
 pub alloc-requires : goal.alloc-requires
 alloc-requires c =
     let e : c.heap_of.result.slots ≡ c.args.sizes.slots = ap (λ x. x.slots) c.heap_of.ensures in
-    let k = (told c.before.before.before.before.before.before.before.before.before).slots-1 in let r = room c.before.before.before.before.before.before.before.before.before.before.before.before.before.before in
+    let k = (told c.before.before.before.before.before.before.before.before.before).slots in let r = room c.before.before.before.before.before.before.before.before.before.before.before.before.before.before in
     record { words = omega arith; slots = omega arith }
 
 pub write_row-requires : goal.write_row-requires

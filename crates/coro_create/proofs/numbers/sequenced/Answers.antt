@@ -4,4 +4,4 @@ use Rattle.memory_world.specs.Numbers.{with_number}
 use Rattle.coro_create.proofs.numbers.sequenced.Goals as goal
 
 pub returns : goal.returns
-returns c = ap (λ n. with_number n c.args.m) c.wrapping_add_u64.ensures
+returns c = ap (λ n. with_number n c.args.m) c.wrapping_add_u64.ensures.value

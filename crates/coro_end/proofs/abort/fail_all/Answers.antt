@@ -19,11 +19,11 @@ abbrev After-end_last-n : Type 0
 After-end_last-n = lts.After-end_last tie.the-claims reads.Pre reads.Post goal.the-invariant-loop-n goal.the-decreases-loop-n
 
 abbrev at-end : After-end_last-n → Beside → Lent
-at-end c = let e = c.end_last-n.new in ending e.0 e.1.0 e.1.1.0 e.1.1.1.0 plain
+at-end c = let e = c.end_last-n.new in ending e.chain e.slots e.saved_stack e.saved_frames plain
 
 so_far : (c : At-loop-n) →
     let a = c.args in let n = c.loop-n in let b = n.invariant.some.beside in
-    SameLengths (ending a.chain.now a.slots.now a.saved_stack.now a.saved_frames.now plain b) (ending n.chain n.slots n.saved-stack n.saved-frames plain b)
+    SameLengths (ending a.chain.now a.slots.now a.saved_stack.now a.saved_frames.now plain b) (ending n.chain n.slots n.saved_stack n.saved_frames plain b)
 so_far c = c.loop-n.invariant.kept c.loop-n.invariant.some.beside
 
 pub loop-n-init : goal.loop-n-init
@@ -35,25 +35,25 @@ pub end_last-n-requires : goal.end_last-n-requires
 end_last-n-requires c = record { held = c.loop-n.invariant.some; ends = refl }
 
 pub loop-n-smaller : goal.loop-n-smaller
-loop-n-smaller c = along-fewer c.loop-n.inv (omega (arith, c.loop-n-test.true)) (at-end c.before.before.before.before.before.before.before.before.before) c.end_last-n.result c.end_last-n.ensures
+loop-n-smaller c = along-fewer c.loop-n.invariant (omega (arith, c.loop-n-test.true)) (at-end c.before.before.before.before.before.before.before.before.before) c.end_last-n.result c.end_last-n.ensures
 
 pub loop-n-preserved : goal.loop-n-preserved
 loop-n-preserved c =
-    let k = c.end_last-n.kept in
-    along-more c.loop-n.inv (omega (arith, c.loop-n-test.true)) (at-end c.before.before.before.before.before.before.before.before.before) c.end_last-n.result c.end_last-n.ensures
-    (λ b. record { stack = refl; frames = refl; chain = k.0; slots = k.1.0; saved_stack = k.1.1.0; saved_frames = k.1.1.1.0; ready = refl; finalize = refl; setup = refl })
+    let k = c.end_last-n.auto in
+    along-more c.loop-n.invariant (omega (arith, c.loop-n-test.true)) (at-end c.before.before.before.before.before.before.before.before.before) c.end_last-n.result c.end_last-n.ensures
+    (λ b. record { stack = refl; frames = refl; chain = k.chain; slots = k.slots; saved_stack = k.saved_stack; saved_frames = k.saved_frames; ready = refl; finalize = refl; setup = refl })
 
 pub shape_of-chain : goal.shape_of-chain
-shape_of-chain c = (so_far c.before.before).chain-1
+shape_of-chain c = (so_far c.before.before).chain
 
 pub shape_of-slots : goal.shape_of-slots
-shape_of-slots c = (so_far c.before.before).slots-1
+shape_of-slots c = (so_far c.before.before).slots
 
 pub shape_of-saved_stack : goal.shape_of-saved_stack
-shape_of-saved_stack c = (so_far c.before.before).saved_stack-1
+shape_of-saved_stack c = (so_far c.before.before).saved_stack
 
 pub shape_of-saved_frames : goal.shape_of-saved_frames
-shape_of-saved_frames c = (so_far c.before.before).saved_frames-1
+shape_of-saved_frames c = (so_far c.before.before).saved_frames
 
 pub returns : goal.returns
 returns c = along-none c.loop-n.invariant (omega (arith, c.loop-n-test.false))

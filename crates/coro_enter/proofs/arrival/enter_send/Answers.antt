@@ -18,8 +18,8 @@ pub returns : goal.returns
 returns c =
     λ w b rep snd. let e = coro_enter c.args.v c.args.d (store_pc c.args.pc w) in
     let d = c.store_enter-did.ensures w b rep snd in
-    let L = c.store_enter-did.last in
+    let L = c.store_enter-did.new in
     then-does c.args.sizes _ c.store_enter-did.result.machine b.fuel e (arrive c.args.sent)
     c.store_enter-did.result.answer c.arrive-step.result d.answer
     (c.arrive-step.ensures c.args.sizes e.world
-    (record { words = lent L.0 L.1.0 L.1.1.0 L.1.1.1.0 L.1.1.1.1.0 L.1.1.1.1.1.0 b; fuel = b.fuel }) d.world)
+    (record { words = lent L.stack L.frames L.chain L.slots L.saved_stack L.saved_frames b; fuel = b.fuel }) d.world)

@@ -62,16 +62,16 @@ returns-then-number-ne0 c =
     (found c.before.before.before.before) c.args.d c.refusal-fault.result c.refusal-fault.ensures (λ z. c.if-number-ne0.true (c.number.ensures ∙ z))
 
 pub move_in-requires : goal.move_in-requires
-move_in-requires c = ok-moves c.requires c.args.v.0 (found c.before.before.before.before.before.before.before.before) c.refusal-fault.ensures (none c.before.before.before.before.before) (omega (arith, c.good))
+move_in-requires c = ok-moves c.requires c.args.v.0 (found c.before.before.before.before.before.before.before.before) c.refusal-fault.ensures (none c.before.before.before.before.before) (omega arith)
 
 pub push_active-requires : goal.push_active-requires
-push_active-requires c = (sum c.before.before.before.before.before.before.before.before.before.before.before.before.before.before.before).chain-1
+push_active-requires c = (sum c.before.before.before.before.before.before.before.before.before.before.before.before.before.before.before).chain
 
 pub put_entered-requires : goal.put_entered-requires
 put_entered-requires c = (sum c.before.before.before.before.before.before.before.before.before.before.before.before.before.before.before.before.before.before.before).slot
 
 pub entered-requires : goal.entered-requires
-entered-requires c = let s = sum c.before.before.before.before.before.before.before.before.before.before.before.before.before.before.before.before.before.before.before.before.before.before in let h₁ = s.height in let h₂ = s.depth in let h₃ = s.active in (omega (arith, h₁, c.good), omega (arith, h₂, c.good), omega (arith, h₃, c.good))
+entered-requires c = let s = sum c.before.before.before.before.before.before.before.before.before.before.before.before.before.before.before.before.before.before.before.before.before.before in let h₁ = s.height in let h₂ = s.depth in let h₃ = s.active in (omega (arith, h₁), omega (arith, h₂), omega (arith, h₃))
 
 pub returns-in-Not : goal.returns-in-Not
 returns-in-Not c =

@@ -28,7 +28,7 @@ move_out-requires c = found-leaves c.requires c.base_at-base.ensures
 pub pop_active-requires : goal.pop_active-requires
 pop_active-requires c =
     let p = c.requires in
-    (p.some, (found_before p c.base_at-base.ensures).chain-1)
+    (p.some, (found_before p c.base_at-base.ensures).chain)
 
 pub put_sleep-requires : goal.put_sleep-requires
 put_sleep-requires c = (found_before c.requires c.base_at-base.ensures).slot
@@ -52,7 +52,7 @@ pub shape_of-chain : goal.shape_of-chain
 shape_of-chain c = c.pop_active.auto.chain
 
 pub shape_of-slots : goal.shape_of-slots
-shape_of-slots c = c.put_sleep.auto.0
+shape_of-slots c = c.put_sleep.auto.slots
 
 pub shape_of-saved_stack : goal.shape_of-saved_stack
 shape_of-saved_stack c = c.move_out.auto.saved_stack
