@@ -56,7 +56,7 @@ def used(crate, roots):
         path = ahead.pop()
         if path not in files:
             files.add(path)
-            ahead += [folder / f"{name}.antt" for name in re.findall(rf"^use Rattle·{crate}·specs\.specs\.(\w+)", path.read_text(), re.M) if (folder / f"{name}.antt").is_file()]
+            ahead += [folder / f"{name}.antt" for name in re.findall(rf"^use Rattle\.{crate}\.specs\.(\w+)", path.read_text(), re.M) if (folder / f"{name}.antt").is_file()]
     return sorted(files)
 
 
@@ -93,7 +93,7 @@ def promised(records, others, roots=("Promise",), every=False):
 
 def is_data(text):
     """A field that holds a thing, and says nothing: a state, a call, a number, a frame, a list of such."""
-    return re.fullmatch(r"(?:e \.(?:State|Call)|ℕ|Bool|Frame|Driver|Sent|Seen|(?:List|Option) (?:\w+|\([^→≡]*\)))", text)
+    return re.fullmatch(r"(?:e\.(?:State|Call)|ℕ|Bool|Frame|Driver|Sent|Seen|(?:List|Option) (?:\w+|\([^→≡]*\)))", text)
 
 
 # Records that are premises of claims: a premise that says less makes no claim say less. Where such a record is a conclusion too (`Enters`, `Suspends`,
