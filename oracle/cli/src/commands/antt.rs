@@ -47,33 +47,29 @@ const FAULTS: [&str; 17] = [
 
 const STATES_OF: [&str; 6] = ["Created", "Running", "Yielded", "Awaiting", "Returned", "Failed"];
 
-pub(super) const HEAD: &str = "use Prim.Native.Nat.{ℕ}
-use mathlib.Core.Path.{_≡_, refl}
-use mathlib.Core.Bool.{true, false}
-use mathlib.Core.List.{[], _∷_, _++_}
-use mathlib.Core.Option.{none, some}
-use lib.ListN.{set}
-use Rattle·heap.specs.Table.{slot}
-use Rattle·heap.specs.declared.fault.Fault.{Fault}
-use Rattle·heap.specs.declared.value.Opt.{Opt}
-use Rattle·heap.specs.declared.object.CoroState.{CoroState}
-use Rattle·model.specs.Program.{Setup}
-use Rattle·model.specs.Object.{Object}
-use Rattle·model.specs.World.{World}
-use Rattle·model.specs.Sound.{sound}
-use Rattle·model.specs.Answer.{numberOf, wordOf, stepOf, takenOff}
-use Rattle·model.specs.Call.{SetUp, typed}
-use Rattle·model.specs.Step.{tested, step}
-use Rattle·model.specs.Compute.{computed}
-use Rattle·model.specs.declared.machine.Cont.{Cont}
-use Rattle·model.specs.declared.machine.Driver.{Driver}
-use Rattle·model.specs.declared.machine.Stop.{Stop}
-use Rattle·model.specs.declared.machine.Outcome.{Outcome}
-use Rattle·model.specs.declared.exec.Step.{Step}
-use Rattle·heap.specs.declared.heap.ResultKind.{ResultKind}
-use Rattle·model.specs.declared.call.OptPc.{OptPc}
-use Rattle·model.specs.declared.call.Op.{Op}
-use Rattle·model.specs.declared.call.Answer.{Answer}
+pub(super) const HEAD: &str = "use Rattle.std.specs.Prelude.{ℕ, ◌≡◌, refl, true, false, [], ◌∷◌, ◌++◌, set}
+use Rattle.std.proofs.Math.Option.{none, some}
+use Rattle.heap.specs.Table.{slot}
+use Rattle.heap.specs.declared.fault.Fault.{Fault}
+use Rattle.heap.specs.declared.value.Opt.{Opt}
+use Rattle.heap.specs.declared.object.CoroState.{CoroState}
+use Rattle.model.specs.Program.{Setup}
+use Rattle.model.specs.Object.{Object}
+use Rattle.model.specs.World.{World}
+use Rattle.model.specs.Sound.{sound}
+use Rattle.model.specs.Answer.{number_of, word_of, step_of, taken_off}
+use Rattle.model.specs.Call.{SetUp, typed}
+use Rattle.model.specs.Step.{tested, step}
+use Rattle.model.specs.Compute.{computed}
+use Rattle.model.specs.declared.machine.Cont.{Cont}
+use Rattle.model.specs.declared.machine.Driver.{Driver}
+use Rattle.model.specs.declared.machine.Stop.{Stop}
+use Rattle.model.specs.declared.machine.Outcome.{Outcome}
+use Rattle.model.specs.declared.exec.Step.{Step}
+use Rattle.heap.specs.declared.heap.ResultKind.{ResultKind}
+use Rattle.model.specs.declared.call.OptPc.{OptPc}
+use Rattle.model.specs.declared.call.Op.{Op}
+use Rattle.model.specs.declared.call.Answer.{Answer}
 ";
 
 fn list<T>(xs: impl IntoIterator<Item = T>, show: impl Fn(T) -> String) -> String {
@@ -212,7 +208,7 @@ fn slots(new: &[Slot], old: Option<(&str, &[Slot])>) -> String {
     let Some((name, was)) = old.filter(|(_, was)| was.len() <= new.len()) else {
         return list(new, slot);
     };
-    let mut s = format!("({name} .slots)");
+    let mut s = format!("{name}.slots");
     for (i, x) in new.iter().enumerate() {
         if i >= was.len() {
             s = format!("({s} ++ ({} ∷ []))", slot(x));
@@ -226,7 +222,7 @@ fn slots(new: &[Slot], old: Option<(&str, &[Slot])>) -> String {
 /// A state; fields that did not change are those of the state before it.
 fn world(w: &World, old: Option<(&str, &World)>) -> String {
     let keep = |name: &str, same: bool, text: String| match old {
-        Some((o, _)) if same => format!("{o} .{name}"),
+        Some((o, _)) if same => format!("{o}.{name}"),
         _ => text,
     };
     let was = |same: &dyn Fn(&World) -> bool| old.is_some_and(|(_, o)| same(o));
@@ -352,7 +348,7 @@ fn reading(text: &str, a: &Answer) -> String {
         Step::Unwind => format!("some (Step.Unwind {refusal})"),
     };
     format!(
-        "(numberOf ({text}) ≡ {}) × (wordOf ({text}) ≡ {}) × (stepOf ({text}) ≡ {step}) × (takenOff ({text}) ≡ {})",
+        "(number_of ({text}) ≡ {}) × (word_of ({text}) ≡ {}) × (step_of ({text}) ≡ {step}) × (taken_off ({text}) ≡ {})",
         a.number, a.word, a.taken
     )
 }

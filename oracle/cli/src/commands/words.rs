@@ -1,5 +1,5 @@
-//! Recorded runs in lent words as antt: for each call a theorem, by computation, that its words are the call, that `stepWords`
-//! gives every lent word after it, and that the answer has its eight words; and of lent words at a rule's edge that `soundWords`
+//! Recorded runs in lent words as antt: for each call a theorem, by computation, that its words are the call, that `step_words`
+//! gives every lent word after it, and that the answer has its eight words; and of lent words at a rule's edge that `sound_words`
 //! tells them apart. The words are those of `lent`, which the library's are compared with.
 
 use std::fmt::Write as _;
@@ -22,14 +22,14 @@ use super::antt::{answer, finish, operation, replayed, save, HEAD};
 const EACH: usize = 2;
 const MEMORIES: usize = 20;
 
-const MORE: &str = "use lib.ListN.{replicate}
-use Rattle·memory_world.specs.Memory.{Lent}
-use Rattle·memory_sound.specs.Words.{soundWords}
-use Rattle·memory_calls.specs.Call.{opOf}
-use Rattle·memory_calls.specs.Answer.{answerWords, answerIn}
-use Rattle·memory_calls.specs.declared.call.Read.{Read}
-use Rattle·memory_world.specs.Words.{lengthsOf}
-use Rattle·memory_step.specs.Step.{MemoryState, left, stateIn, decoded, stepWords, setUpWords, looked}
+const MORE: &str = "use Rattle.std.specs.Prelude.{replicate}
+use Rattle.memory_world.specs.Memory.{Lent}
+use Rattle.memory_sound.specs.Words.{sound_words}
+use Rattle.memory_calls.specs.Call.{op_of}
+use Rattle.memory_calls.specs.Answer.{answer_words, answer_in}
+use Rattle.memory_calls.specs.declared.call.Read.{Read}
+use Rattle.memory_world.specs.Words.{lengths_of}
+use Rattle.memory_step.specs.Step.{MemoryState, left, state_in, decoded, step_words, set_up_words, looked}
 ";
 
 /// The fields of `Lent`, in the order of the slices.
@@ -38,8 +38,8 @@ const FIELDS: [&str; 9] = [
     "frames",
     "chain",
     "slots",
-    "savedStack",
-    "savedFrames",
+    "saved_stack",
+    "saved_frames",
     "ready",
     "finalize",
     "setup",
@@ -61,7 +61,7 @@ fn words(ws: &[u64]) -> String {
 /// The nine slices; those that did not change are those of the state before them.
 fn slices(now: &Words, old: Option<(&str, &Words)>) -> String {
     let field = |i: usize| match old {
-        Some((name, was)) if was.0[i] == now.0[i] => format!("{name} .words .{}", FIELDS[i]),
+        Some((name, was)) if was.0[i] == now.0[i] => format!("{name}.words.{}", FIELDS[i]),
         _ => words(&now.0[i]),
     };
     let fields: Vec<String> = (0..9).map(|i| format!("{} = {}", FIELDS[i], field(i))).collect();
@@ -82,19 +82,19 @@ fn state(now: &Words, old: Option<(&str, &Words)>) -> String {
 /// What is claimed of a call in words, and how many claims that is.
 fn claim(k: &Call, a: &Answer, told: &str, name: &str, next: &str) -> (String, usize) {
     let shown = words(&answer_words(k, a));
-    let read = format!("(answerWords ({told}) ≡ {shown}) × (answerIn {shown} ≡ {told})");
+    let read = format!("(answer_words ({told}) ≡ {shown}) × (answer_in {shown} ≡ {told})");
     match (k, operation(k), call_words(k)) {
         (Call::Look, Some(_), Some(_)) => {
             let seen = words(&a.words);
             (format!("(looked {name} ≡ {seen}) × {read}"), 3)
         }
         (_, Some(op), Some(ws)) => {
-            let is = format!("opOf {} ≡ Read.Is ({op})", words(&ws));
-            (format!("({is}) × (stepWords {name} ({op}) ≡ left {next} ({told})) × {read}"), 4)
+            let is = format!("op_of {} ≡ Read.Is ({op})", words(&ws));
+            (format!("({is}) × (step_words {name} ({op}) ≡ left {next} ({told})) × {read}"), 4)
         }
         (Call::SetUp(s), ..) => {
             let given = words(&setup_words(s));
-            (format!("(setUpWords {name} {given} ≡ left {next} ({told})) × {read}"), 3)
+            (format!("(set_up_words {name} {given} ≡ left {next} ({told})) × {read}"), 3)
         }
         _ => unreachable!("a call has words"),
     }
@@ -123,7 +123,7 @@ fn theorems(text: &mut String, engine: &mut dyn Engine, i: usize, s: &Sequence) 
         let proof = vec!["refl"; n].join(", ");
         let _ = writeln!(
             text,
-            "w{i}-{j} : {statement}\nunfolding computed soundWords stepWords setUpWords\nw{i}-{j} = ({proof})"
+            "w{i}-{j} : {statement}\nunfolding computed sound_words step_words set_up_words\nw{i}-{j} = ({proof})"
         );
         (was, name) = (now, next);
     }
@@ -257,8 +257,8 @@ const GIVEN: &[Given] = &[
     (false, |s| s.funcs.push(s.funcs[1].clone())),
 ];
 
-/// Of lent words: that `soundWords` tells them apart (`mN`); that they are the words of what they decode to (`bN`), or that a call
-/// on them is refused and changes nothing (`xN`). Of set-ups on them, what `setUpWords` leaves (`gN`).
+/// Of lent words: that `sound_words` tells them apart (`mN`); that they are the words of what they decode to (`bN`), or that a call
+/// on them is refused and changes nothing (`xN`). Of set-ups on them, what `set_up_words` leaves (`gN`).
 pub(crate) fn memories(dir: &Path) -> Result<(), String> {
     let (mut root, mut text, mut files) = (String::new(), String::new(), 0);
     let world = every_kind();
@@ -277,14 +277,14 @@ pub(crate) fn memories(dir: &Path) -> Result<(), String> {
         }
         let _ =
             writeln!(text, "\nabbrev h{n} : MemoryState\nh{n} = {}", state(&w, Some(("whole", &whole))));
-        let tested = format!("soundWords (h{n} .words) (h{n} .machine) (h{n} .fuel) ≡ {good}");
-        let _ = writeln!(text, "m{n} : {tested}\nunfolding computed soundWords\nm{n} = refl");
+        let tested = format!("sound_words h{n}.words h{n}.machine h{n}.fuel ≡ {good}");
+        let _ = writeln!(text, "m{n} : {tested}\nunfolding computed sound_words\nm{n} = refl");
         let _ = if *good {
-            writeln!(text, "b{n} : stateIn (lengthsOf (h{n} .words)) (decoded h{n}) ≡ h{n}\nunfolding computed\nb{n} = refl")
+            writeln!(text, "b{n} : state_in (lengths_of h{n}.words) (decoded h{n}) ≡ h{n}\nunfolding computed\nb{n} = refl")
         } else {
             let refused =
-                format!("stepWords h{n} (Op.Grant 5) ≡ left h{n} (Answer.Refused Fault.Unsound)");
-            writeln!(text, "x{n} : ({refused}) × (looked h{n} ≡ [])\nunfolding computed soundWords stepWords\nx{n} = (refl, refl)")
+                format!("step_words h{n} (Op.Grant 5) ≡ left h{n} (Answer.Refused Fault.Unsound)");
+            writeln!(text, "x{n} : ({refused}) × (looked h{n} ≡ [])\nunfolding computed sound_words step_words\nx{n} = (refl, refl)")
         };
         if (n + 1) % MEMORIES == 0 || n + 1 == CHANGES.len() {
             save(dir, &format!("Memories{files}"), &text, &mut root)?;
@@ -307,7 +307,7 @@ pub(crate) fn memories(dir: &Path) -> Result<(), String> {
         );
         let _ = writeln!(
             text,
-            "g{n} : setUpWords whole {given} ≡ left f{n} ({told})\nunfolding computed setUpWords\ng{n} = refl"
+            "g{n} : set_up_words whole {given} ≡ left f{n} ({told})\nunfolding computed set_up_words\ng{n} = refl"
         );
     }
     save(dir, "Given", &text, &mut root)?;
