@@ -8,14 +8,13 @@ use Rattle.check_tables.specs.Queue.{in_set}
 use Rattle.check_machine.specs.Rows.{rows_test}
 use Rattle.check_machine.proofs.Holding.{begin, refuses, twice, next, end}
 use Rattle.check_machine.proofs.Ranging.{none_yet, one_more, out_of_range, fails-beside, all-ranged}
-use Rattle.check_machine.proofs.rows.rows_ok.Invariants as inv
 use Rattle.check_machine.proofs.rows.rows_ok.Lts as lts
 use Rattle.check_machine.proofs.rows.rows_ok.Reads as reads
 use Rattle.check_machine.proofs.rows.rows_ok.Tie as tie
 use Rattle.check_machine.proofs.rows.rows_ok.Goals as goal
 
 abbrev Start : Type 0
-Start = lts.Start tie.the-claims reads.Pre reads.Post inv.invariant-loop-i inv.decreases-loop-i
+Start = lts.Start tie.the-claims reads.Pre reads.Post goal.the-invariant-loop-i goal.the-decreases-loop-i
 
 -- the test of the rows
 abbrev rows : Start → Bool

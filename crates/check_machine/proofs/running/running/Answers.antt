@@ -17,17 +17,16 @@ use Rattle.check_tables.specs.Queue.{in_set}
 use Rattle.check_tables.proofs.Bits.{empty-set, put-set}
 use Rattle.check_machine.specs.Running.{running_test, RunningTold}
 use Rattle.check_machine.proofs.Chained.{runs, stops, twice, passes, all-run, set-of, word-inside}
-use Rattle.check_machine.proofs.running.running.Invariants as inv
 use Rattle.check_machine.proofs.running.running.Lts as lts
 use Rattle.check_machine.proofs.running.running.Reads as reads
 use Rattle.check_machine.proofs.running.running.Tie as tie
 use Rattle.check_machine.proofs.running.running.Goals as goal
 
 abbrev At-loop-k : Type 0
-At-loop-k = lts.At-loop tie.the-claims reads.Pre reads.Post inv.invariant-loop-k inv.decreases-loop-k
+At-loop-k = lts.At-loop tie.the-claims reads.Pre reads.Post goal.the-invariant-loop-k goal.the-decreases-loop-k
 
 abbrev Else-not-is_running : Type 0
-Else-not-is_running = lts.Else1 tie.the-claims reads.Pre reads.Post inv.invariant-loop-k inv.decreases-loop-k
+Else-not-is_running = lts.Else1 tie.the-claims reads.Pre reads.Post goal.the-invariant-loop-k goal.the-decreases-loop-k
 
 -- the coroutines, and the next one's word
 abbrev table : At-loop-k → List (Slot H.Object)

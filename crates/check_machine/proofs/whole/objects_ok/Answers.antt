@@ -63,49 +63,45 @@ tests z = rest_ok z.args.slots.now (z.args.m.count * 20) ∷ run z ∷ (ranges z
 abbrev Passed : ℕ → Start → Type 0
 Passed n z = let a = z.args in Left (from n (tests z)) (objects_test a.sizes (setup_of a.setup.now) a.chain.now a.slots.now a.saved-stack.now a.saved-frames.now a.m)
 
-abbrev start_of : After-struct_known-1 → Start
-start_of c = c.before.before.before.before.before.before
-
 -- words have 64 bits, so the ranges are the rule
-begun : (c : After-struct_known-1) → Passed 0 (start_of c)
+begun : (c : After-struct_known-1) → Passed 0 c
 begun c =
-    let z = start_of c in record {
-      is = made-later _ (run z) (ranges z) (rows z) _ _
-          ∙ ap (λ t. upto t (run z ∷ rows z ∷ zeros z)) (table_same z.args.slots.now z.args.m.count z.requires.table (λ i. (c.shared_slice_known-2-1.given i).fits));
+    record {
+      is = made-later _ (run c.before.before.before.before.before.before) (ranges c.before.before.before.before.before.before) (rows c.before.before.before.before.before.before) _ _
+          ∙ ap (λ t. upto t (run c.before.before.before.before.before.before ∷ rows c.before.before.before.before.before.before ∷ zeros c.before.before.before.before.before.before)) (table_same c.args.slots.now c.args.m.count c.requires.table (λ i. (c.shared_slice_known-2-1.given i).fits));
     }
 
 -- the set has the chain's slots
-rows_are : (c : After-rows_ok) (t : Bool) → c.rows_ok.result ≡ t → let z = start_of c.before.before.before.before.before.before.before.before in (ranges z && rows z) ≡ t
+rows_are : (c : After-rows_ok) (t : Bool) → c.rows_ok.result ≡ t → (ranges c.before.before.before.before.before.before.before.before.before.before.before.before.before.before && rows c.before.before.before.before.before.before.before.before.before.before.before.before.before.before) ≡ t
 rows_are c t e =
-    let z = start_of c.before.before.before.before.before.before.before.before in
-    let same : in_set c.running-r.result.set ≡ chained_at z.args.chain.now z.args.m.active =
+    let same : in_set c.running-r.result.set ≡ chained_at c.args.chain.now c.args.m.active =
     λ j x. c.running-r.ensures.set c.if-not-r.false x j in
-    sym (ap (λ (f : ℕ → Bool). ranges z && rows-by z f) same) ∙ sym c.rows_ok.ensures ∙ e
+    sym (ap (λ (f : ℕ → Bool). ranges c.before.before.before.before.before.before.before.before.before.before.before.before.before.before && rows-by c.before.before.before.before.before.before.before.before.before.before.before.before.before.before f) same) ∙ sym c.rows_ok.ensures ∙ e
 
-passed-1 : (c : Else-not-rest_ok) → Passed 1 (start_of c.before.before)
+passed-1 : (c : Else-not-rest_ok) → Passed 1 c.before.before
 passed-1 c = pass (begun c.before.before) (sym c.rest_ok.ensures ∙ c.if-not-rest_ok.false)
 
-passed-2 : (c : Else-not-r) → Passed 2 (start_of c.before.before.before.before.before)
+passed-2 : (c : Else-not-r) → Passed 2 c.before.before.before.before.before
 passed-2 c = pass (passed-1 c.before.before.before) (sym c.running-r.ensures.good ∙ c.if-not-r.false)
 
-passed-3 : (c : Else-not-rows_ok) → Passed 3 (start_of c.before.before.before.before.before.before.before.before.before)
+passed-3 : (c : Else-not-rows_ok) → Passed 3 c.before.before.before.before.before.before.before.before.before
 passed-3 c = pass (passed-2 c.before.before.before.before) (rows_are c.before true c.if-not-rows_ok.false)
 
 pub overflow_mul-m : goal.overflow_mul-m
-overflow_mul-m c = let start = start_of c.before in omega (arith, start.requires.table, start.good)
+overflow_mul-m c = omega (arith, c.requires.table, c.good)
 
 pub returns-then-not-rest_ok : goal.returns-then-not-rest_ok
 returns-then-not-rest_ok c = stop (begun c.before.before.before) (sym c.rest_ok.ensures ∙ c.if-not-rest_ok.true)
 
 pub running-r-requires : goal.running-r-requires
-running-r-requires c = let p = (start_of c.before.before.before).requires in record { on_chain = p.on_chain; table = p.table; few = p.few }
+running-r-requires c = let p = c.requires in record { on_chain = p.on_chain; table = p.table; few = p.few }
 
 pub returns-then-not-r : goal.returns-then-not-r
 returns-then-not-r c = stop (passed-1 c.before.before.before.before) (sym c.running-r.ensures.good ∙ c.if-not-r.true)
 
 pub rows_ok-requires : goal.rows_ok-requires
 rows_ok-requires c =
-    let p = (start_of c.before.before.before.before.before.before.before.before).requires in
+    let p = c.requires in
     record {
       rows =
           record {
@@ -121,16 +117,16 @@ pub returns-then-not-rows_ok : goal.returns-then-not-rows_ok
 returns-then-not-rows_ok c = stop (passed-2 c.before.before.before.before.before) (rows_are c.before.before false c.if-not-rows_ok.true)
 
 pub overflow_mul-sizes : goal.overflow_mul-sizes
-overflow_mul-sizes c = let start = start_of c.before.before.before.before.before.before.before.before.before.before.before in omega (arith, start.requires.on-stack, start.good)
+overflow_mul-sizes c = omega (arith, c.requires.on-stack, c.good)
 
 pub returns-then-not-rest_ok-2 : goal.returns-then-not-rest_ok-2
 returns-then-not-rest_ok-2 c = stop (passed-3 c.before.before.before.before) (sym c.rest_ok-2.ensures ∙ c.if-not-rest_ok-2.true)
 
 pub overflow_mul-sizes-2 : goal.overflow_mul-sizes-2
-overflow_mul-sizes-2 c = omega (arith, (start_of c.before.before.before.before.before.before.before.before.before.before.before.before.before.before).requires.deep)
+overflow_mul-sizes-2 c = omega (arith, c.requires.deep)
 
 pub overflow_mul-sizes-3 : goal.overflow_mul-sizes-3
-overflow_mul-sizes-3 c = let start = start_of c.before.before.before.before.before.before.before.before.before.before.before.before.before.before.before in omega (arith, start.requires.on-frames, start.good)
+overflow_mul-sizes-3 c = omega (arith, c.requires.on-frames, c.good)
 
 pub returns : goal.returns
 returns c = last (pass (passed-3 c.before.before.before.before.before.before.before) (sym c.rest_ok-2.ensures ∙ c.if-not-rest_ok-2.false)) c.rest_ok-3.ensures

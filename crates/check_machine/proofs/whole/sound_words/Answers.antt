@@ -26,9 +26,6 @@ Start = lts.Start tie.the-claims reads.Pre reads.Post
 abbrev Else-not-setup_held : Type 0
 Else-not-setup_held = lts.Else1 tie.the-claims reads.Pre reads.Post
 
-abbrev After-sizes-sizes : Type 0
-After-sizes-sizes = lts.After-sizes tie.the-claims reads.Pre reads.Post
-
 abbrev After-numbers_ok : Type 0
 After-numbers_ok = lts.After-numbers_ok tie.the-claims reads.Pre reads.Post
 
@@ -43,7 +40,7 @@ After-objects_ok = lts.After-objects_ok tie.the-claims reads.Pre reads.Post
 
 -- `sound_words` meets its contract: each part fails the whole, and the last decides it. Assumes nothing.
 abbrev lent : Start → Lent
-lent c = let a = c.args in lent_of a.stack.now a.frames.now a.chain.now a.slots.now a.saved.now a.asleep.now a.ready.now a.finalize.now a.setup.now
+lent c = let a = c.args in lent_of a.stack.now a.frames.now a.chain.now a.slots.now a.saved_stack.now a.saved_frames.now a.ready.now a.finalize.now a.setup.now
 
 abbrev numbers-by : Start → Sizes → Bool
 numbers-by c l =
@@ -67,35 +64,26 @@ Passed n c = Left (from n (tests c)) (sound_words (lent c) c.args.m c.args.fuel)
 begun : (c : Start) → Passed 0 c
 begun c = record { is = whole_same (lent c) c.args.m c.args.fuel }
 
-abbrev begin-of : After-sizes-sizes → Start
-begin-of c = c.before.before.before.before.before.before.before.before.before.before.before.before
-
-abbrev start_of : Else-not-numbers_ok → Start
-start_of c = begin-of c.before.before
-
 -- what each part told
 held : (c : Else-not-setup_held) → setup_held c.args.setup.now ≡ true
 held c = sym c.setup_held.ensures ∙ c.if-not-setup_held.false
 
-numbers : (c : After-numbers_ok) (b : Bool) → c.numbers_ok.result ≡ b → let start = begin-of c.before in counted (lent start) start.args.m start.args.fuel ≡ b
-numbers c b e = sym (ap (numbers-by (begin-of c.before)) c.sizes-sizes.ensures.words) ∙ sym c.numbers_ok.ensures ∙ e
+numbers : (c : After-numbers_ok) (b : Bool) → c.numbers_ok.result ≡ b → counted (lent c.before.before.before.before.before.before.before.before.before.before.before.before.before) c.args.m c.args.fuel ≡ b
+numbers c b e = sym (ap (numbers-by c.before.before.before.before.before.before.before.before.before.before.before.before.before) c.sizes-sizes.ensures.words) ∙ sym c.numbers_ok.ensures ∙ e
 
-ready : (c : Else-not-numbers_ok) → let start = start_of c in counted (lent start) start.args.m start.args.fuel ≡ true
+ready : (c : Else-not-numbers_ok) → counted (lent c.before.before.before.before.before.before.before.before.before.before.before.before.before.before) c.args.m c.args.fuel ≡ true
 ready c = numbers c.before true c.if-not-numbers_ok.false
 
-abbrev sizes-of : After-objects_ok → After-sizes-sizes
-sizes-of c = c.before.before.before.before.before.before.before.before
-
-objects : (c : After-objects_ok) (b : Bool) → c.objects_ok.result ≡ b → let start = begin-of (sizes-of c) in objects-by start (sizes_of (setup_of start.args.setup.now)) ≡ b
-objects c b e = sym (ap (objects-by (begin-of (sizes-of c))) (sizes-of c).sizes.ensures.words) ∙ sym c.objects_ok.ensures ∙ e
+objects : (c : After-objects_ok) (b : Bool) → c.objects_ok.result ≡ b → objects-by c.before.before.before.before.before.before.before.before.before.before.before.before.before.before.before.before.before.before.before.before (sizes_of (setup_of c.args.setup.now)) ≡ b
+objects c b e = sym (ap (objects-by c.before.before.before.before.before.before.before.before.before.before.before.before.before.before.before.before.before.before.before.before) c.sizes-sizes.ensures.words) ∙ sym c.objects_ok.ensures ∙ e
 
 passed-1 : (c : Else-not-setup_held) → Passed 1 c.before.before.before.before.before.before.before.before.before.before.before
 passed-1 c = pass (begun c.before.before.before.before.before.before.before.before.before.before.before) (held c)
 
-passed-2 : (c : Else-not-numbers_ok) → Passed 2 (start_of c)
+passed-2 : (c : Else-not-numbers_ok) → Passed 2 c
 passed-2 c = pass (passed-1 c.before.before.before) (ready c)
 
-passed-3 : (c : Else-not-tower_ok) → Passed 3 (start_of c.before.before.before.before)
+passed-3 : (c : Else-not-tower_ok) → Passed 3 c.before.before.before.before
 passed-3 c = pass (passed-2 c.before.before.before.before) (sym c.tower_ok.ensures ∙ c.if-not-tower_ok.false)
 
 pub returns-then-not-setup_held : goal.returns-then-not-setup_held
@@ -105,7 +93,7 @@ pub sizes-sizes-requires : goal.sizes-sizes-requires
 sizes-sizes-requires c = setup-fits c.args.setup.now (held c.before)
 
 pub numbers_ok-requires : goal.numbers_ok-requires
-numbers_ok-requires c = subst SizesFit (sym c.sizes-sizes.ensures.words) (sizes-fit (begin-of c.before).args.setup.now (held c.before.before))
+numbers_ok-requires c = subst SizesFit (sym c.sizes-sizes.ensures.words) (sizes-fit c.args.setup.now (held c.before.before))
 
 pub returns-then-not-numbers_ok : goal.returns-then-not-numbers_ok
 returns-then-not-numbers_ok c = stop (passed-1 c.before.before.before.before) (numbers c.before.before false c.if-not-numbers_ok.true)
@@ -114,28 +102,24 @@ pub catches-need-requires : goal.catches-need-requires
 catches-need-requires c = held c.before.before.before.before
 
 pub tower_ok-requires : goal.tower_ok-requires
-tower_ok-requires c =
-    let start = start_of c.before.before.before in
-    tower-fits (lent start) start.args.m start.args.fuel (held c.before.before.before.before.before.before) (ready c.before.before.before) _ c.catches-need.ensures
+tower_ok-requires c = tower-fits (lent c.before.before.before.before.before.before.before.before.before.before.before.before.before.before.before.before.before) c.args.m c.args.fuel (held c.before.before.before.before.before.before) (ready c.before.before.before) _ c.catches-need.ensures
 
 pub returns-then-not-tower_ok : goal.returns-then-not-tower_ok
 returns-then-not-tower_ok c = stop (passed-2 c.before.before.before.before.before) (sym c.tower_ok.ensures ∙ c.if-not-tower_ok.true)
 
 pub objects_ok-requires : goal.objects_ok-requires
 objects_ok-requires c =
-    let start = start_of c.before.before.before.before.before.before in let a = start.args in
+    let a = c.args in
     subst
-    (λ (l : Sizes). ObjectsFit a.chain.now a.slots.now a.saved.now a.asleep.now c.catches-need.result a.setup.now l a.m)
+    (λ (l : Sizes). ObjectsFit a.chain.now a.slots.now a.saved_stack.now a.saved_frames.now c.catches-need.result a.setup.now l a.m)
     (sym c.sizes-sizes.ensures.words)
-    (objects-fit (lent start) a.m a.fuel (held c.before.before.before.before.before.before.before.before.before) (ready c.before.before.before.before.before.before) _ c.catches-need.ensures)
+    (objects-fit (lent c.before.before.before.before.before.before.before.before.before.before.before.before.before.before.before.before.before.before.before.before) a.m a.fuel (held c.before.before.before.before.before.before.before.before.before) (ready c.before.before.before.before.before.before) _ c.catches-need.ensures)
 
 pub returns-then-not-objects_ok : goal.returns-then-not-objects_ok
 returns-then-not-objects_ok c = stop (passed-3 c.before.before.before.before) (objects c.before.before false c.if-not-objects_ok.true)
 
 pub queues_ok-requires : goal.queues_ok-requires
-queues_ok-requires c =
-    let start = start_of c.before.before.before.before.before.before.before.before in
-    queues-fit (lent start) start.args.m start.args.fuel (held c.before.before.before.before.before.before.before.before.before.before.before) (ready c.before.before.before.before.before.before.before.before)
+queues_ok-requires c = queues-fit (lent c.before.before.before.before.before.before.before.before.before.before.before.before.before.before.before.before.before.before.before.before.before.before) c.args.m c.args.fuel (held c.before.before.before.before.before.before.before.before.before.before.before) (ready c.before.before.before.before.before.before.before.before)
 
 pub returns : goal.returns
 returns c = last (pass (passed-3 c.before.before.before.before.before) (objects c.before.before.before true c.if-not-objects_ok.false)) c.queues_ok.ensures

@@ -4,14 +4,13 @@ use Prim.Native.Nat.{◌-◌}
 use native.Mathlib.Omega.{arith}
 use lib.ListN.{length-set}
 use Rattle.check_tables.proofs.Widths.{Function, setup-facts, kept, told}
-use Rattle.check_tables.proofs.catches.catches.Invariants as inv
 use Rattle.check_tables.proofs.catches.catches.Lts as lts
 use Rattle.check_tables.proofs.catches.catches.Reads as reads
 use Rattle.check_tables.proofs.catches.catches.Tie as tie
 use Rattle.check_tables.proofs.catches.catches.Goals as goal
 
 abbrev In-loop-i : Type 0
-In-loop-i = lts.In-loop tie.the-claims reads.Pre reads.Post inv.invariant-loop-i inv.decreases-loop-i
+In-loop-i = lts.In-loop tie.the-claims reads.Pre reads.Post goal.the-invariant-loop-i goal.the-decreases-loop-i
 
 -- the function of this turn
 turn : (c : In-loop-i) → Function c.args.setup.now c.loop-i.i

@@ -10,14 +10,13 @@ use Rattle.heap.specs.Word.{slot_of}
 use Rattle.heap.specs.Heap.{slots_of, coro_of}
 use Rattle.check_tables.specs.Queue.{by_coro, mark_of}
 use Rattle.check_tables.proofs.Entries.{has, put-mark, first, small, unmarked, again, one_more, all}
-use Rattle.check_tables.proofs.queue.entries_ok.Invariants as inv
 use Rattle.check_tables.proofs.queue.entries_ok.Lts as lts
 use Rattle.check_tables.proofs.queue.entries_ok.Reads as reads
 use Rattle.check_tables.proofs.queue.entries_ok.Tie as tie
 use Rattle.check_tables.proofs.queue.entries_ok.Goals as goal
 
 abbrev Else-not-is_marked : Type 0
-Else-not-is_marked = lts.Else1 tie.the-claims reads.Pre reads.Post inv.invariant-loop-i inv.decreases-loop-i
+Else-not-is_marked = lts.Else1 tie.the-claims reads.Pre reads.Post goal.the-invariant-loop-i goal.the-decreases-loop-i
 
 -- the word is marked, and its slot in range
 marked : (c : Else-not-is_marked)

@@ -16,54 +16,42 @@ use Rattle.coro_clean.proofs.charge.charge_slow.Goals as goal
 abbrev Start : Type 0
 Start = lts.Start tie.the-claims reads.Pre reads.Post
 
-abbrev After-unbank-f : Type 0
-After-unbank-f = lts.After-unbank tie.the-claims reads.Pre reads.Post
-
--- `charge_slow` meets the definition, by the fuel taken back and whether cleanups are ready. Assumes nothing.
--- the ways back that several clauses take
-abbrev start_of : After-unbank-f → Start
-start_of c = c.before.before.before.before.before.before.before.before
-
 abbrev mem : Start → Beside → Lent
 mem c b = cleaning c.args.stack.now c.args.frames.now c.args.chain.now c.args.slots.now c.args.saved_stack.now
     c.args.saved_frames.now c.args.finalize.now plain b
 
 pub returns-then-f-eq0 : goal.returns-then-f-eq0
 returns-then-f-eq0 c =
-    let start = start_of c.before.before.before in
-    λ w b rep snd. slow-spent start.args.sizes (mem start b) start.args.m start.args.fuel w rep c.unbank-f.result c.unbank-f.ensures
-    (OptPc.Some start.args.pc) c.if-f-eq0.true
+    λ w b rep snd. slow-spent c.args.sizes (mem c.before.before.before.before.before.before.before.before.before.before.before b) c.args.m c.args.fuel w rep c.unbank-f.result c.unbank-f.ensures
+    (OptPc.Some c.args.pc) c.if-f-eq0.true
 
 pub charge_ready-requires : goal.charge_ready-requires
 charge_ready-requires c =
-    let start = start_of c.before.before.before.before.before.before.before.before.before.before in
-    let p = start.requires in
+    let p = c.requires in
     record {
       charge = record {
-        ok = unbank-ok start.args.sizes (mem start) start.args.m start.args.fuel c.unbank-f.result c.unbank-f.ensures p.ok;
+        ok = unbank-ok c.args.sizes (mem c.before.before.before.before.before.before.before.before.before.before.before.before.before.before.before.before.before.before) c.args.m c.args.fuel c.unbank-f.result c.unbank-f.ensures p.ok;
         narrow = p.narrow;
         some = p.some;
       };
-      paid = paid-again start.args.fuel c.unbank-f.result c.unbank-f.ensures c.if-f-eq0.false;
+      paid = paid-again c.args.fuel c.unbank-f.result c.unbank-f.ensures c.if-f-eq0.false;
     }
 
 pub returns-then-f : goal.returns-then-f
 returns-then-f c =
-    let start = start_of c.before.before.before.before.before.before.before.before.before.before.before.before.before.before.before.before.before.before.before.before.before.before.before.before.before.before in
     λ w b rep snd.
     let f = c.unbank-f.result in
-    let again = back-rep start.args.sizes (mem start b) start.args.m start.args.fuel w rep f c.unbank-f.ensures in
-    slow-paid start.args.sizes (mem start b) start.args.m start.args.fuel w rep f c.unbank-f.ensures (OptPc.Some start.args.pc) _ _ _ _ c.if-f-eq0.false
-    (at_ready start.args.sizes _ _ _ start.args.pc (unbank w) _ (sym (ap (λ (x : Fuel). x.ready) again.fuel) ∙ c.if-f.true)
+    let again = back-rep c.args.sizes (mem c.before.before.before.before.before.before.before.before.before.before.before.before.before.before.before.before.before.before.before.before.before.before.before.before.before.before.before.before.before.before.before.before.before.before b) c.args.m c.args.fuel w rep f c.unbank-f.ensures in
+    slow-paid c.args.sizes (mem c.before.before.before.before.before.before.before.before.before.before.before.before.before.before.before.before.before.before.before.before.before.before.before.before.before.before.before.before.before.before.before.before.before.before b) c.args.m c.args.fuel w rep f c.unbank-f.ensures (OptPc.Some c.args.pc) _ _ _ _ c.if-f-eq0.false
+    (at_ready c.args.sizes _ _ _ c.args.pc (unbank w) _ (sym (ap (λ (x : Fuel). x.ready) again.fuel) ∙ c.if-f.true)
     (c.charge_ready.ensures (unbank w) b again (unbank-sounds w snd)))
 
 pub returns : goal.returns
 returns c =
-    let start = start_of c.before.before.before.before.before.before in
     λ w b rep snd.
     let f = c.unbank-f.result in
-    let again = back-rep start.args.sizes (mem start b) start.args.m start.args.fuel w rep f c.unbank-f.ensures in
-    slow-paid start.args.sizes (mem start b) start.args.m start.args.fuel w rep f c.unbank-f.ensures (OptPc.Some start.args.pc) (mem start b)
-    start.args.m _ _ c.if-f-eq0.false
-    (at-idle start.args.sizes (mem start b) start.args.m _ start.args.pc (unbank w) _ (sym (ap (λ (x : Fuel). x.ready) again.fuel) ∙ c.if-f.false)
-    (c.charge_done-did.ensures start.args.m start.args.sizes (unbank w) (record { words = mem start b; fuel = f }) again))
+    let again = back-rep c.args.sizes (mem c.before.before.before.before.before.before.before.before.before.before.before.before.before.before b) c.args.m c.args.fuel w rep f c.unbank-f.ensures in
+    slow-paid c.args.sizes (mem c.before.before.before.before.before.before.before.before.before.before.before.before.before.before b) c.args.m c.args.fuel w rep f c.unbank-f.ensures (OptPc.Some c.args.pc) (mem c.before.before.before.before.before.before.before.before.before.before.before.before.before.before b)
+    c.args.m _ _ c.if-f-eq0.false
+    (at-idle c.args.sizes (mem c.before.before.before.before.before.before.before.before.before.before.before.before.before.before b) c.args.m _ c.args.pc (unbank w) _ (sym (ap (λ (x : Fuel). x.ready) again.fuel) ∙ c.if-f.false)
+    (c.charge_done-did.ensures c.args.m c.args.sizes (unbank w) (record { words = mem c.before.before.before.before.before.before.before.before.before.before.before.before.before.before b; fuel = f }) again))

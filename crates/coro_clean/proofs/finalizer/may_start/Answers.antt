@@ -13,7 +13,7 @@ use Rattle.coro_clean.proofs.finalizer.may_start.Tie as tie
 use Rattle.coro_clean.proofs.finalizer.may_start.Goals as goal
 
 abbrev In-At : Type 0
-In-At = lts.After-known_told tie.the-claims reads.Pre reads.Post
+In-At = lts.Past-After-known_told tie.the-claims reads.Pre reads.Post
 
 abbrev After-coro_at-c : Type 0
 After-coro_at-c = lts.After-coro_at tie.the-claims reads.Pre reads.Post

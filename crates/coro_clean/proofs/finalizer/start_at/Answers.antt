@@ -21,34 +21,8 @@ use Rattle.coro_clean.proofs.finalizer.start_at.Goals as goal
 abbrev Start : Type 0
 Start = lts.Start tie.the-claims reads.Pre reads.Post
 
-abbrev After-word_at-v : Type 0
-After-word_at-v = lts.After-word_at tie.the-claims reads.Pre reads.Post
-
-abbrev After-take_front : Type 0
-After-take_front = lts.After-take_front tie.the-claims reads.Pre reads.Post
-
-abbrev After-coro_enter-arg-6-1 : Type 0
-After-coro_enter-arg-6-1 = lts.After-coro_enter-arg6 tie.the-claims reads.Pre reads.Post
-
 abbrev After-coro_enter-did : Type 0
 After-coro_enter-did = lts.After-coro_enter tie.the-claims reads.Pre reads.Post
-
-abbrev After-set_closing-arg-1 : Type 0
-After-set_closing-arg-1 = lts.After-set_closing-arg tie.the-claims reads.Pre reads.Post
-
--- `start_at` meets the definition: words taken off, an entry, a close, the mark of a running cleanup. Assumes nothing.
--- the ways back that several clauses take
-abbrev coro-enter-of : After-set_closing-arg-1 → After-coro_enter-did
-coro-enter-of c = c.before.before.before.before.before.before.before.before.before.before.before.before.before.before
-
-abbrev word-at-of : After-coro_enter-did → After-word_at-v
-word-at-of c = c.before.before.before.before.before.before.before.before.before.before.before.before
-
-abbrev take-front-of : After-coro_enter-arg-6-1 → After-take_front
-take-front-of c = c.before.before.before.before.before.before.before.before.before
-
-abbrev start_of : After-word_at-v → Start
-start_of c = c.before.before.before.before.before.before.before.before
 
 abbrev mem : Start → Beside → Lent
 mem c b = cleaning c.args.stack.now c.args.frames.now c.args.chain.now c.args.slots.now c.args.saved_stack.now
@@ -61,51 +35,41 @@ fewer c w = with_finalize (drop (c.args.i + 1) w.finalize) w
 -- what is left when its coroutine was entered
 abbrev words : After-coro_enter-did → Beside → Lent
 words c b =
-    let at-take-front = take-front-of c.before in let entry = start_of at-take-front.before.before in
     let e = c.coro_enter-did in
     lent e.new.stack e.new.frames e.new.chain e.new.slots e.new.saved_stack e.new.saved_frames
-    (record { words = on_finalize at-take-front.take-front.last.0 b.words; fuel = entry.args.fuel })
+    (record { words = on_finalize c.take_front.new.queue b.words; fuel = c.args.fuel })
 
 entered : (c : After-coro_enter-did) (w : World) (b : Beside) →
-    let at-word-at = word-at-of c in let entry = start_of at-word-at in
-    Rep entry.args.sizes w (mem entry b) entry.args.m entry.args.fuel → sound w ≡ true
-    → Does entry.args.sizes (coro_enter at-word-at.word_at.result Driver.Finalize (fewer entry w)) (words c b) c.coro_enter-did.result.machine
-    entry.args.fuel c.coro_enter-did.result.answer
+    Rep c.args.sizes w (mem c.before.before.before.before.before.before.before.before.before.before.before.before.before.before.before.before.before.before.before.before b) c.args.m c.args.fuel → sound w ≡ true
+    → Does c.args.sizes (coro_enter c.word_at-v.result Driver.Finalize (fewer c.before.before.before.before.before.before.before.before.before.before.before.before.before.before.before.before.before.before.before.before w)) (words c b) c.coro_enter-did.result.machine
+    c.args.fuel c.coro_enter-did.result.answer
 entered c w b rep snd =
-    let at-take-front = take-front-of c.before in let entry = start_of at-take-front.before.before in
-    c.coro_enter-did.ensures (fewer entry w) (record { words = on_finalize at-take-front.take-front.last.0 b.words; fuel = entry.args.fuel })
-    (fewer-rep entry.args.sizes (mem entry b) entry.args.m entry.args.fuel w rep (entry.args.i + 1) _ _ at-take-front.take-front.ensures)
-    (fewer-sound w (entry.args.i + 1) snd)
+    c.coro_enter-did.ensures (fewer c.before.before.before.before.before.before.before.before.before.before.before.before.before.before.before.before.before.before.before.before w) (record { words = on_finalize c.take_front.new.queue b.words; fuel = c.args.fuel })
+    (fewer-rep c.args.sizes (mem c.before.before.before.before.before.before.before.before.before.before.before.before.before.before.before.before.before.before.before.before b) c.args.m c.args.fuel w rep (c.args.i + 1) _ _ c.take_front.ensures)
+    (fewer-sound w (c.args.i + 1) snd)
 
 pub coro_enter-did-requires : goal.coro_enter-did-requires
 coro_enter-did-requires c =
-    let at-take-front = take-front-of c.before in let entry = start_of at-take-front.before.before in
-    fewer-ok entry.args.sizes entry.args.m entry.args.fuel entry.args.stack.now entry.args.frames.now entry.args.chain.now
-    entry.args.slots.now entry.args.saved_stack.now entry.args.saved_frames.now
-    entry.args.finalize.now at-take-front.take-front.last.0 (entry.args.i + 1) _ entry.requires.ok at-take-front.take-front.ensures at-take-front.take-front.kept.0
+    fewer-ok c.args.sizes c.args.m c.args.fuel c.args.stack.now c.args.frames.now c.args.chain.now
+    c.args.slots.now c.args.saved_stack.now c.args.saved_frames.now
+    c.args.finalize.now c.take_front.new.queue (c.args.i + 1) _ c.requires.ok c.take_front.ensures c.take_front.auto.queue
 
 pub set_closing-requires : goal.set_closing-requires
 set_closing-requires c =
-    let at-coro-enter = coro-enter-of c.before in let at-word-at = word-at-of at-coro-enter in let entry = start_of at-word-at in
-    let o = entry.requires.ok in
-    (entered at-coro-enter o.world o.beside o.rep o.sound).world.slots.within
+    let o = c.requires.ok in
+    (entered c.before.before.before.before.before.before.before.before.before.before.before.before.before.before.before o.world o.beside o.rep o.sound).world.slots.within
 
 pub shape_of-finalize : goal.shape_of-finalize
-shape_of-finalize c =
-    let after-coro-enter = coro-enter-of c.before.before.before.before.before.before.before in
-    let at-take-front = take-front-of after-coro-enter.before in
-    at-take-front.take-front.kept.0
+shape_of-finalize c = c.take_front.auto.queue
 
 pub returns : goal.returns
 returns c =
-    let at-coro-enter = coro-enter-of c.before.before.before.before.before.before.before in let at-word-at = word-at-of at-coro-enter in
-    let entry = start_of at-word-at in
     λ w b rep snd.
-    let v = at-word-at.word_at.result in
-    let u = (coro_enter v Driver.Finalize (fewer entry w)).world in
-    let f = entry.args.fuel in
-    start-does entry.args.sizes (mem entry b) entry.args.m f w rep entry.args.i v _ _ _
-    (at-word-at.word_at.ensures w.finalize entry.args.m.finalize rep.finalize entry.requires.below).is
-    (c.set_finalizing-marked.ensures entry.args.sizes (change_coro v (λ k. k) (close 0) u)
-    (record { words = on_slots c.set_closing.new.slots (words at-coro-enter b); fuel = f })
-    (c.set_closing.ensures entry.args.sizes u (record { words = words at-coro-enter b; fuel = f }) (entered at-coro-enter w b rep snd).world))
+    let v = c.word_at-v.result in
+    let u = (coro_enter v Driver.Finalize (fewer c.before.before.before.before.before.before.before.before.before.before.before.before.before.before.before.before.before.before.before.before.before.before.before.before.before.before.before.before.before.before.before.before.before.before.before.before.before.before.before.before.before w)).world in
+    let f = c.args.fuel in
+    start-does c.args.sizes (mem c.before.before.before.before.before.before.before.before.before.before.before.before.before.before.before.before.before.before.before.before.before.before.before.before.before.before.before.before.before.before.before.before.before.before.before.before.before.before.before.before.before b) c.args.m f w rep c.args.i v _ _ _
+    (c.word_at-v.ensures w.finalize c.args.m.finalize rep.finalize c.requires.below).is
+    (c.set_finalizing-marked.ensures c.args.sizes (change_coro v (λ k. k) (close 0) u)
+    (record { words = on_slots c.set_closing.new.slots (words c.before.before.before.before.before.before.before.before.before.before.before.before.before.before.before.before.before.before.before.before.before b); fuel = f })
+    (c.set_closing.ensures c.args.sizes u (record { words = words c.before.before.before.before.before.before.before.before.before.before.before.before.before.before.before.before.before.before.before.before.before b; fuel = f }) (entered c.before.before.before.before.before.before.before.before.before.before.before.before.before.before.before.before.before.before.before.before.before w b rep snd).world))

@@ -12,47 +12,35 @@ use Rattle.coro_clean.proofs.finalizer.start_finalizer.Goals as goal
 abbrev Start : Type 0
 Start = lts.Start tie.the-claims reads.Pre reads.Post
 
-abbrev After-unbank-f : Type 0
-After-unbank-f = lts.After-unbank tie.the-claims reads.Pre reads.Post
-
--- `start_finalizer` meets the definition: the first word that starts, or none. Assumes nothing.
--- the ways back that several clauses take
-abbrev start_of : After-unbank-f → Start
-start_of c = c.before.before.before.before.before.before.before.before
-
 abbrev mem : Start → Beside → Lent
 mem c b = cleaning c.args.stack.now c.args.frames.now c.args.chain.now c.args.slots.now c.args.saved_stack.now
     c.args.saved_frames.now c.args.finalize.now plain b
 
 pub first_start-i-requires : goal.first_start-i-requires
 first_start-i-requires c =
-    let entry = start_of c.before in
-    let o = entry.requires in
-    search-fits entry.args.sizes (mem entry o.beside) entry.args.m entry.args.fuel o.world o.rep o.sound
+    let o = c.requires in
+    search-fits c.args.sizes (mem c.before.before.before.before.before.before.before.before.before o.beside) c.args.m c.args.fuel o.world o.rep o.sound
 
 pub start_at-requires : goal.start_at-requires
 start_at-requires c =
-    let entry = start_of c.before.before.before.before.before.before.before.before.before.before in
     record {
-      ok = unbank-ok entry.args.sizes (mem entry) entry.args.m entry.args.fuel c.unbank-f.result c.unbank-f.ensures
-          entry.requires;
+      ok = unbank-ok c.args.sizes (mem c.before.before.before.before.before.before.before.before.before.before.before.before.before.before.before.before.before.before) c.args.m c.args.fuel c.unbank-f.result c.unbank-f.ensures
+          c.requires;
       below = c.if-i-m.true;
     }
 
 pub returns-then-i-m : goal.returns-then-i-m
 returns-then-i-m c =
-    let entry = start_of c.before.before.before.before.before.before.before.before.before.before.before.before.before.before.before.before.before.before.before.before.before.before.before.before.before.before in
     λ w b rep snd.
-    let again = unbank-rep entry.args.sizes (mem entry b) entry.args.m entry.args.fuel w rep c.unbank-f.result c.unbank-f.ensures in
-    finalizer-at entry.args.sizes (mem entry b) entry.args.m c.unbank-f.result w again c.first_start-i.result
+    let again = unbank-rep c.args.sizes (mem c.before.before.before.before.before.before.before.before.before.before.before.before.before.before.before.before.before.before.before.before.before.before.before.before.before.before.before.before.before.before.before.before.before.before b) c.args.m c.args.fuel w rep c.unbank-f.result c.unbank-f.ensures in
+    finalizer-at c.args.sizes (mem c.before.before.before.before.before.before.before.before.before.before.before.before.before.before.before.before.before.before.before.before.before.before.before.before.before.before.before.before.before.before.before.before.before.before b) c.args.m c.unbank-f.result w again c.first_start-i.result
     c.first_start-i.ensures _ _ _ _ c.if-i-m.true
     (c.start_at.ensures (unbank w) b again (unbank-sounds w snd))
 
 pub returns : goal.returns
 returns c =
-    let entry = start_of c.before.before.before.before.before.before.before.before in
     λ w b rep snd.
-    let again = unbank-rep entry.args.sizes (mem entry b) entry.args.m entry.args.fuel w rep c.unbank-f.result c.unbank-f.ensures in
-    finalizer-none entry.args.sizes (mem entry b) entry.args.m c.unbank-f.result w again c.first_start-i.result
+    let again = unbank-rep c.args.sizes (mem c.before.before.before.before.before.before.before.before.before.before.before.before.before.before.before.before b) c.args.m c.args.fuel w rep c.unbank-f.result c.unbank-f.ensures in
+    finalizer-none c.args.sizes (mem c.before.before.before.before.before.before.before.before.before.before.before.before.before.before.before.before b) c.args.m c.unbank-f.result w again c.first_start-i.result
     c.first_start-i.ensures _ _ _ _ c.if-i-m.false
-    (c.start_none.ensures entry.args.sizes (unbank w) (record { words = mem entry b; fuel = b.fuel }) again)
+    (c.start_none.ensures c.args.sizes (unbank w) (record { words = mem c.before.before.before.before.before.before.before.before.before.before.before.before.before.before.before.before b; fuel = b.fuel }) again)

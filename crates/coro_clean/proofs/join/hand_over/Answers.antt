@@ -24,21 +24,13 @@ abbrev Start : Type 0
 Start = lts.Start tie.the-claims reads.Pre reads.Post
 
 abbrev In-At : Type 0
-In-At = lts.After-known_told2 tie.the-claims reads.Pre reads.Post
+In-At = lts.Past-After-known_told2 tie.the-claims reads.Pre reads.Post
 
 abbrev After-is_suspended : Type 0
 After-is_suspended = lts.After-is_suspended tie.the-claims reads.Pre reads.Post
 
-abbrev After-finalized_at : Type 0
-After-finalized_at = lts.After-finalized_at tie.the-claims reads.Pre reads.Post
-
 abbrev Else-finalized_at : Type 0
 Else-finalized_at = lts.Else2 tie.the-claims reads.Pre reads.Post
-
--- `hand_over` meets the definition: no coroutine, one that is not suspended, one handed over before, a new one. Assumes nothing.
--- the ways back that several clauses take
-abbrev start_of : In-At → Start
-start_of c = c.before.before.before.before.before.before
 
 abbrev mem : Start → Beside → Lent
 mem c b = cleanups c.args.slots.now c.args.finalize.now plain b
@@ -47,30 +39,24 @@ mem c b = cleanups c.args.slots.now c.args.finalize.now plain b
 abbrev slot : In-At → ℕ
 slot c = c.in-At.i
 
-fits : (c : In-At) → SlotFits (start_of c).args.slots.now (slot c)
+fits : (c : In-At) → SlotFits c.args.slots.now (slot c)
 fits c =
-    let s = start_of c in
-    stands-words s.args.m.count s.args.slots.now s.args.v.0 (slot c) (sym c.in-At.is ∙ c.coro_place.ensures) s.requires.ok.rep.slots.within
+    stands-words c.args.m.count c.args.slots.now c.args.v.0 (slot c) (sym c.in-At.is ∙ c.coro_place.ensures) c.requires.ok.rep.slots.within
 
 found : (c : In-At) (l : Sizes) (w : World) (b : Beside) (f : Fuel) →
-    let s = start_of c in
-    Rep l w (mem s b) s.args.m f → Hands l (mem s b) s.args.m f s.args.v.0 w (slot c)
+    Rep l w (mem c.before.before.before.before b) c.args.m f → Hands l (mem c.before.before.before.before b) c.args.m f c.args.v.0 w (slot c)
 found c l w b f rep =
-    let s = start_of c in
-    hands-at l (mem s b) s.args.m f s.args.v.0 w rep (slot c) (sym c.in-At.is ∙ c.coro_place.ensures)
+    hands-at l (mem c.before.before.before.before b) c.args.m f c.args.v.0 w rep (slot c) (sym c.in-At.is ∙ c.coro_place.ensures)
 
 -- it is suspended or not, and handed over before or not
-suspended-at : (c : After-is_suspended) → is_suspended (coro_in (start_of c.before.before).args.slots.now (slot c.before.before)).state ≡ c.is_suspended.result
+suspended-at : (c : After-is_suspended) → is_suspended (coro_in c.args.slots.now (slot c.before.before)).state ≡ c.is_suspended.result
 suspended-at c = ap is_suspended (sym c.state_at-s.ensures) ∙ sym c.is_suspended.ensures
 
-abbrev place_of : After-finalized_at → In-At
-place_of c = c.before.before.before.before
-
 -- the cleanup queue has room for it
-room : (c : Else-finalized_at) → let s = start_of (place_of c.before) in s.args.m.finalize < length s.args.finalize.now
+room : (c : Else-finalized_at) → c.args.m.finalize < length c.args.finalize.now
 room c =
-    let place = place_of c.before in let p = (start_of place).requires in let o = p.ok in
-    (found place p.sizes o.world o.beside o.beside.fuel o.rep).room o.sound o.room (sym c.finalized_at.ensures ∙ c.if-finalized_at.false)
+    let p = c.requires in let o = p.ok in
+    (found c.before.before.before.before.before p.sizes o.world o.beside o.beside.fuel o.rep).room o.sound o.room (sym c.finalized_at.ensures ∙ c.if-finalized_at.false)
 
 pub coro_place-requires : goal.coro_place-requires
 coro_place-requires c = c.requires.ok.rep.slots.within
@@ -79,37 +65,35 @@ pub state_at-s-requires : goal.state_at-s-requires
 state_at-s-requires c = fits c.before
 
 pub returns-then-not-is_suspended : goal.returns-then-not-is_suspended
-returns-then-not-is_suspended c = λ l w b rep. (found c.before.before.before.before l w b (start_of c.before.before.before.before).args.fuel rep).not-suspended (suspended-at c.before.before ∙ c.if-not-is_suspended.true)
+returns-then-not-is_suspended c = λ l w b rep. (found c.before.before.before.before l w b c.args.fuel rep).not-suspended (suspended-at c.before.before ∙ c.if-not-is_suspended.true)
 
 pub finalized_at-requires : goal.finalized_at-requires
 finalized_at-requires c = fits c.before.before.before.before
 
 pub returns-then-finalized_at : goal.returns-then-finalized_at
 returns-then-finalized_at c =
-    let place = place_of c.before.before in
-    λ l w b rep. (found place l w b (start_of place).args.fuel rep).twice (suspended-at c.before.before.before.before ∙ c.if-not-is_suspended.false)
+    λ l w b rep. (found c.before.before.before.before.before.before l w b c.args.fuel rep).twice (suspended-at c.before.before.before.before ∙ c.if-not-is_suspended.false)
     (sym c.finalized_at.ensures ∙ c.if-finalized_at.true)
 
 pub put_finalized-requires : goal.put_finalized-requires
-put_finalized-requires c = fits (place_of c.before.before.before)
+put_finalized-requires c = fits c.before.before.before.before.before.before.before
 
 pub push_back-requires : goal.push_back-requires
 push_back-requires c = room c.before.before.before.before.before.before
 
 pub overflow_add-n : goal.overflow_add-n
-overflow_add-n c = omega (arith, room c.before.before.before.before.before.before.before.before.before.before, (start_of (place_of c.before.before.before.before.before.before.before.before.before.before.before)).well-formed)
+overflow_add-n c = omega (arith, room c.before.before.before.before.before.before.before.before.before.before, c.well_formed)
 
 pub returns-in-Not : goal.returns-in-Not
 returns-in-Not c =
     λ l w b rep.
-    hand-refused l (mem c.before.before.before.before.before.before.before b) c.args.m c.args.fuel c.args.v.0 w rep _
+    hand-refused l (mem c.before.before.before.before.before b) c.args.m c.args.fuel c.args.v.0 w rep _
     (none-there (coro_of (slots_of c.args.m.count c.args.slots.now) c.args.v.0) _ (sym c.in-Not.is ∙ c.coro_place.ensures))
 
 pub returns-else-finalized_at : goal.returns-else-finalized_at
 returns-else-finalized_at c =
-    let place = place_of c.before.before.before.before.before.before.before.before.before.before.before.before.before.before in
     λ l w b rep.
-    (found place l w b (start_of place).args.fuel rep).joins (suspended-at c.before.before.before.before.before.before.before.before.before.before.before.before.before.before.before.before ∙ c.if-not-is_suspended.false) (sym c.finalized_at.ensures ∙ c.if-finalized_at.false)
+    (found c.before.before.before.before.before.before.before.before.before.before.before.before.before.before.before.before.before.before l w b c.args.fuel rep).joins (suspended-at c.before.before.before.before.before.before.before.before.before.before.before.before.before.before.before.before ∙ c.if-not-is_suspended.false) (sym c.finalized_at.ensures ∙ c.if-finalized_at.false)
     _ _ c.put_finalized.ensures c.push_back.ensures _ _
     (λ u r. c.set_finalizing-did.ensures l u
-    (record { words = on_slots c.put_finalized.new.slots (on_finalize c.push_back.new.queue (mem (start_of place) b)); fuel = (start_of place).args.fuel }) r)
+    (record { words = on_slots c.put_finalized.new.slots (on_finalize c.push_back.new.queue (mem c.before.before.before.before.before.before.before.before.before.before.before.before.before.before.before.before.before.before.before.before.before.before b)); fuel = c.args.fuel }) r)

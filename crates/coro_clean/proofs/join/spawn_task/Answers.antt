@@ -22,21 +22,13 @@ abbrev Start : Type 0
 Start = lts.Start tie.the-claims reads.Pre reads.Post
 
 abbrev In-At : Type 0
-In-At = lts.After-known_told tie.the-claims reads.Pre reads.Post
-
-abbrev After-task_at : Type 0
-After-task_at = lts.After-task_at tie.the-claims reads.Pre reads.Post
+In-At = lts.Past-After-known_told tie.the-claims reads.Pre reads.Post
 
 abbrev After-is_resumable : Type 0
 After-is_resumable = lts.After-is_resumable tie.the-claims reads.Pre reads.Post
 
 abbrev Else-not-is_resumable : Type 0
 Else-not-is_resumable = lts.Else2 tie.the-claims reads.Pre reads.Post
-
--- `spawn_task` meets the definition: no coroutine, a task already, one that cannot be resumed, a new task. Assumes nothing.
--- the ways back that several clauses take
-abbrev start_of : In-At → Start
-start_of c = c.before.before.before.before.before.before
 
 abbrev mem : Start → Beside → Lent
 mem c b = tasks c.args.slots.now c.args.ready.now plain b
@@ -45,31 +37,25 @@ mem c b = tasks c.args.slots.now c.args.ready.now plain b
 abbrev slot : In-At → ℕ
 slot c = c.in-At.i
 
-fits : (c : In-At) → SlotFits (start_of c).args.slots.now (slot c)
+fits : (c : In-At) → SlotFits c.args.slots.now (slot c)
 fits c =
-    let s = start_of c in
-    stands-words s.args.m.count s.args.slots.now s.args.v.0 (slot c) (sym c.in-At.is ∙ c.coro_place.ensures) s.requires.ok.rep.slots.within
+    stands-words c.args.m.count c.args.slots.now c.args.v.0 (slot c) (sym c.in-At.is ∙ c.coro_place.ensures) c.requires.ok.rep.slots.within
 
 found : (c : In-At) (l : Sizes) (w : World) (b : Beside) →
-    let s = start_of c in
-    Rep l w (mem s b) s.args.m b.fuel → Tasks l (mem s b) s.args.m b.fuel s.args.v.0 w (slot c)
+    Rep l w (mem c.before.before.before.before b) c.args.m b.fuel → Tasks l (mem c.before.before.before.before b) c.args.m b.fuel c.args.v.0 w (slot c)
 found c l w b rep =
-    let s = start_of c in
-    tasks-at l (mem s b) s.args.m b.fuel s.args.v.0 w rep (slot c) (sym c.in-At.is ∙ c.coro_place.ensures)
+    tasks-at l (mem c.before.before.before.before b) c.args.m b.fuel c.args.v.0 w rep (slot c) (sym c.in-At.is ∙ c.coro_place.ensures)
 
 -- it can be resumed or not
 resumable : (c : After-is_resumable) →
-    is_resumable (coro_in (start_of c.before.before.before.before).args.slots.now (slot c.before.before.before.before)).state ≡ c.is_resumable.result
+    is_resumable (coro_in c.args.slots.now (slot c.before.before.before.before)).state ≡ c.is_resumable.result
 resumable c = ap is_resumable (sym c.state_at-s.ensures) ∙ sym c.is_resumable.ensures
 
-abbrev task-of : Else-not-is_resumable → After-task_at
-task-of c = c.before.before.before.before
-
 -- the ready queue has room for it
-room : (c : Else-not-is_resumable) → let s = start_of (task-of c).before.before in s.args.m.ready < length s.args.ready.now
+room : (c : Else-not-is_resumable) → c.args.m.ready < length c.args.ready.now
 room c =
-    let asked = task-of c in let p = (start_of asked.before.before).requires in let o = p.ok in
-    (found asked.before.before p.sizes o.world o.beside o.rep).room o.sound o.room (sym asked.task-at.ensures ∙ c.if-task_at.false)
+    let p = c.requires in let o = p.ok in
+    (found c.before.before.before.before.before p.sizes o.world o.beside o.rep).room o.sound o.room (sym c.task_at.ensures ∙ c.if-task_at.false)
 
 pub coro_place-requires : goal.coro_place-requires
 coro_place-requires c = c.requires.ok.rep.slots.within
@@ -89,23 +75,22 @@ returns-then-not-is_resumable c =
     (found c.before.before.before.before.before.before l w b rep).late (sym c.task_at.ensures ∙ c.if-task_at.false) (resumable c.before.before ∙ c.if-not-is_resumable.true)
 
 pub put_task-requires : goal.put_task-requires
-put_task-requires c = fits (task-of c.before.before).before.before
+put_task-requires c = fits c.before.before.before.before.before.before.before
 
 pub push_back-requires : goal.push_back-requires
 push_back-requires c = room c.before.before.before.before.before.before
 
 pub overflow_add-n : goal.overflow_add-n
-overflow_add-n c = omega (arith, room c.before.before.before.before.before.before.before.before.before.before, (start_of (task-of c.before.before.before.before.before.before.before.before.before.before).before.before).well-formed)
+overflow_add-n c = omega (arith, room c.before.before.before.before.before.before.before.before.before.before, c.well_formed)
 
 pub returns-in-Not : goal.returns-in-Not
 returns-in-Not c =
     λ l w b rep.
-    task-refused l (mem c.before.before.before.before.before.before b) c.args.m b.fuel c.args.v.0 w rep _
+    task-refused l (mem c.before.before.before.before.before b) c.args.m b.fuel c.args.v.0 w rep _
     (none-there (coro_of (slots_of c.args.m.count c.args.slots.now) c.args.v.0) _ (sym c.in-Not.is ∙ c.coro_place.ensures))
 
 pub returns-else-not-is_resumable : goal.returns-else-not-is_resumable
 returns-else-not-is_resumable c =
-    let at-task-at = task-of c.before.before.before.before.before.before.before.before.before.before in
     λ l w b rep.
-    (found at-task-at.before.before l w b rep).joins (sym at-task-at.task-at.ensures ∙ c.if-task_at.false)
+    (found c.before.before.before.before.before.before.before.before.before.before.before.before.before.before.before l w b rep).joins (sym c.task_at.ensures ∙ c.if-task_at.false)
     (resumable c.before.before.before.before.before.before.before.before.before.before.before ∙ c.if-not-is_resumable.false) _ _ c.put_task.ensures c.push_back.ensures

@@ -45,7 +45,7 @@ marks : (c : Joined-row-lt-NONE) →
     c.if-row-lt-NONE.held ≡ set c.loop-i.held c.row_of-row.result true
 marks c =
     ⊎_elim (λ z. z.held-is)
-    (λ z. let l = c.loop-i.invariant.1 in let k = z.0.left in z.1 ∙ sym (mark-none c.loop-i.held c.row_of-row.result (omega arith)))
+    (λ z. let l = c.loop-i.invariant.1 in let k = z.if-row-lt-NONE.false in z.held-is ∙ sym (mark-none c.loop-i.held c.row_of-row.result (omega arith)))
     c.if-row-lt-NONE.branch-raw
 
 pub loop-i-init : goal.loop-i-init

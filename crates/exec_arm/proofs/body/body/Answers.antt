@@ -1,33 +1,19 @@
 -- `body` meets the definition, by the instruction. Assumes nothing.
 use Rattle.exec_arm.proofs.Fitting.{around, as-arm, yield-fits, kv-fits, await-fits}
 use Rattle.exec_arm.proofs.Tags.{not-suspending}
-use Rattle.exec_arm.proofs.body.body.Lts as lts
-use Rattle.exec_arm.proofs.body.body.Reads as reads
-use Rattle.exec_arm.proofs.body.body.Tie as tie
 use Rattle.exec_arm.proofs.body.body.Goals as goal
 
-abbrev Start : Type 0
-Start = lts.Start tie.the-claims reads.Pre reads.Post
-
-abbrev After-shared_slice_known-1 : Type 0
-After-shared_slice_known-1 = lts.After-shared_slice_known tie.the-claims reads.Pre reads.Post
-
--- `body` meets the definition, by the instruction. Assumes nothing.
--- from a match to the start
-abbrev start_of : After-shared_slice_known-1 → Start
-start_of c = c.before.before.before.before.before.before.before
-
 pub coro_yield-requires : goal.coro_yield-requires
-coro_yield-requires c = yield-fits (start_of c.before.before.before.before.before.before.before.before.before.before).requires c.in-Yield.is
+coro_yield-requires c = yield-fits c.requires c.in-Yield.is
 
 pub yield_kv-requires : goal.yield_kv-requires
-yield_kv-requires c = kv-fits (start_of c.before.before.before.before.before.before.before.before.before.before).requires c.in-YieldKv.is
+yield_kv-requires c = kv-fits c.requires c.in-YieldKv.is
 
 pub coro_await-requires : goal.coro_await-requires
-coro_await-requires c = await-fits (start_of c.before.before.before.before.before.before.before.before.before.before).requires c.in-Await.is
+coro_await-requires c = await-fits c.requires c.in-Await.is
 
 pub entering-requires : goal.entering-requires
-entering-requires c = (start_of c.before.before.before.before.before.before.before.before).requires
+entering-requires c = c.requires
 
 pub returns-in-Yield : goal.returns-in-Yield
 returns-in-Yield c = λ pc t arm q w b rep snd. as-arm q c.in-Yield.is (c.coro_yield.ensures w (around rep) rep snd)

@@ -1,36 +1,22 @@
 -- `entering` meets the definition, by the instruction that enters. Assumes nothing.
 use Rattle.exec_arm.proofs.Fitting.{around, as-arm, resume-fits, throw-fits, close-fits, next_fits}
 use Rattle.exec_arm.proofs.Tags.{not-entering}
-use Rattle.exec_arm.proofs.entering.entering.Lts as lts
-use Rattle.exec_arm.proofs.entering.entering.Reads as reads
-use Rattle.exec_arm.proofs.entering.entering.Tie as tie
 use Rattle.exec_arm.proofs.entering.entering.Goals as goal
 
-abbrev Start : Type 0
-Start = lts.Start tie.the-claims reads.Pre reads.Post
-
-abbrev After-shared_slice_known-1 : Type 0
-After-shared_slice_known-1 = lts.After-shared_slice_known tie.the-claims reads.Pre reads.Post
-
--- `entering` meets the definition, by the instruction that enters. Assumes nothing.
--- from a match to the start
-abbrev start_of : After-shared_slice_known-1 → Start
-start_of c = c.before.before.before.before.before.before.before
-
 pub resume-did-requires : goal.resume-did-requires
-resume-did-requires c = resume-fits (start_of c.before.before.before.before.before.before.before.before.before.before).requires c.in-Resume.is
+resume-did-requires c = resume-fits c.requires c.in-Resume.is
 
 pub resume_throw-did-requires : goal.resume_throw-did-requires
-resume_throw-did-requires c = throw-fits (start_of c.before.before.before.before.before.before.before.before.before.before).requires c.in-ResumeThrow.is
+resume_throw-did-requires c = throw-fits c.requires c.in-ResumeThrow.is
 
 pub coro_close-did-requires : goal.coro_close-did-requires
-coro_close-did-requires c = close-fits (start_of c.before.before.before.before.before.before.before.before.before.before).requires c.in-CoroClose.is
+coro_close-did-requires c = close-fits c.requires c.in-CoroClose.is
 
 pub iter_next-did-requires : goal.iter_next-did-requires
-iter_next-did-requires c = next_fits (start_of c.before.before.before.before.before.before.before.before.before.before).requires c.in-IterNext.is
+iter_next-did-requires c = next_fits c.requires c.in-IterNext.is
 
 pub staying-requires : goal.staying-requires
-staying-requires c = (start_of c.before.before.before.before.before.before.before.before).requires
+staying-requires c = c.requires
 
 pub returns-in-Resume : goal.returns-in-Resume
 returns-in-Resume c = λ s pc t arm q w b rep snd. as-arm q c.in-Resume.is (c.resume-did.ensures w (around rep) rep snd)

@@ -4,42 +4,28 @@ use native.Mathlib.Omega.{arith}
 use Rattle.model.specs.Calls.{table}
 use Rattle.exec_arm.proofs.Tags.{no-group}
 use Rattle.exec_arm.proofs.Fitting.{around, as-arm, new-fits, indirect-fits, spawn-fits, current-fits, ask-fits}
-use Rattle.exec_arm.proofs.staying.staying.Lts as lts
-use Rattle.exec_arm.proofs.staying.staying.Reads as reads
-use Rattle.exec_arm.proofs.staying.staying.Tie as tie
 use Rattle.exec_arm.proofs.staying.staying.Goals as goal
 
-abbrev Start : Type 0
-Start = lts.Start tie.the-claims reads.Pre reads.Post
-
-abbrev After-shared_slice_known-1 : Type 0
-After-shared_slice_known-1 = lts.After-shared_slice_known tie.the-claims reads.Pre reads.Post
-
--- `staying` meets the definition, by the instruction after which the same coroutine runs. Assumes nothing.
--- from a match to the start
-abbrev start_of : After-shared_slice_known-1 → Start
-start_of c = c.before.before.before.before.before.before.before
-
 pub coro_new-did-requires : goal.coro_new-did-requires
-coro_new-did-requires c = new-fits (start_of c.before.before.before.before.before.before.before.before).requires c.in-CoroNew.is (let k = c.in-CoroNew.known_told-1-own.given in omega arith)
+coro_new-did-requires c = new-fits c.requires c.in-CoroNew.is (let k = c.in-CoroNew.known_told-1-own.given in omega arith)
 
 pub coro_new_indirect-did-requires : goal.coro_new_indirect-did-requires
-coro_new_indirect-did-requires c = indirect-fits (start_of c.before.before.before.before.before.before.before.before).requires c.in-CoroNewIndirect.is (let k = c.in-CoroNewIndirect.known_told-in-CoroNewIndirect-1-own.given in omega arith)
+coro_new_indirect-did-requires c = indirect-fits c.requires c.in-CoroNewIndirect.is (let k = c.in-CoroNewIndirect.known_told-in-CoroNewIndirect-1-own.given in omega arith)
 
 pub spawn-requires : goal.spawn-requires
-spawn-requires c = spawn-fits (start_of c.before.before.before.before.before.before.before.before.before).requires c.in-Spawn.is (let k = c.in-Spawn.known_told-in-Spawn-1-own.given in omega arith)
+spawn-requires c = spawn-fits c.requires c.in-Spawn.is (let k = c.in-Spawn.known_told-in-Spawn-1-own.given in omega arith)
 
 pub coro_status-step-requires : goal.coro_status-step-requires
-coro_status-step-requires c = ask-fits (start_of c.before.before.before.before.before).requires (ap table c.in-CoroStatus.is)
+coro_status-step-requires c = ask-fits c.requires (ap table c.in-CoroStatus.is)
 
 pub coro_current-step-requires : goal.coro_current-step-requires
-coro_current-step-requires c = current-fits (start_of c.before.before.before.before.before).requires c.in-CoroCurrent.is
+coro_current-step-requires c = current-fits c.requires c.in-CoroCurrent.is
 
 pub coro_key-step-requires : goal.coro_key-step-requires
-coro_key-step-requires c = ask-fits (start_of c.before.before.before.before.before).requires (ap table c.in-CoroKey.is)
+coro_key-step-requires c = ask-fits c.requires (ap table c.in-CoroKey.is)
 
 pub coro_result-step-requires : goal.coro_result-step-requires
-coro_result-step-requires c = ask-fits (start_of c.before.before.before.before.before).requires (ap table c.in-CoroResult.is)
+coro_result-step-requires c = ask-fits c.requires (ap table c.in-CoroResult.is)
 
 pub returns-in-CoroNew : goal.returns-in-CoroNew
 returns-in-CoroNew c = λ s e pc t arm q w b rep snd. as-arm q c.in-CoroNew.is (c.coro_new-did.ensures w (around rep) rep snd)

@@ -11,33 +11,23 @@ use Rattle.exec_close.proofs.close.coro_close.Goals as goal
 abbrev Start : Type 0
 Start = lts.Start tie.the-claims reads.Pre reads.Post
 
-abbrev After-reg-v : Type 0
-After-reg-v = lts.After-reg tie.the-claims reads.Pre reads.Post
-
--- `coro_close` meets the definition: the words of two registers, and what the first names. Assumes nothing.
--- the ways back that several clauses take
-abbrev start_of : After-reg-v → Start
-start_of c = c.before.before.before.before.before.before.before
-
 abbrev mem : Start → Beside → Lent
 mem c b = lent c.args.stack.now c.args.frames.now c.args.chain.now c.args.slots.now c.args.saved_stack.now c.args.saved_frames.now b
 
 pub close_to-requires : goal.close_to-requires
 close_to-requires c =
-    let p = (start_of c.before.before.before.before.before.before.before.before.before.before.before).requires in
+    let p = c.requires in
     record { entry = record { ok = p.ok; narrow = p.narrow; some = p.result.some }; result = p.result }
 
 pub returns-in-Refused : goal.returns-in-Refused
 returns-in-Refused c =
-    let start = start_of c.before.before.before.before.before.before in
-    λ w b rep snd. close-refused start.args.sizes (mem start b) start.args.m b.fuel w start.args.pc start.args.dst c.reg-v.result
-    c.reg-signal.result start.args.c start.args.src
+    λ w b rep snd. close-refused c.args.sizes (mem c.before.before.before.before.before.before.before.before.before.before.before b) c.args.m b.fuel w c.args.pc c.args.dst c.reg-v.result
+    c.reg-signal.result c.args.c c.args.src
     (c.reg-v.ensures w.stack w.frames rep.stack rep.frames).is (c.reg-signal.ensures w.stack w.frames rep.stack rep.frames).is _
-    (sym c.in-Refused.is ∙ c.coro_state.ensures start.args.sizes w (record { words = mem start b; fuel = b.fuel }) rep) rep
+    (sym c.in-Refused.is ∙ c.coro_state.ensures c.args.sizes w (record { words = mem c.before.before.before.before.before.before.before.before.before.before.before b; fuel = b.fuel }) rep) rep
 
 pub returns-in-In : goal.returns-in-In
 returns-in-In c =
-    let start = start_of c.before.before.before.before.before.before.before.before.before.before.before.before.before.before.before.before.before.before.before.before.before.before.before.before.before in
-    λ w b rep snd. closes start.args.sizes _ _ b.fuel w start.args.pc start.args.dst c.reg-v.result c.reg-signal.result start.args.c start.args.src
+    λ w b rep snd. closes c.args.sizes _ _ b.fuel w c.args.pc c.args.dst c.reg-v.result c.reg-signal.result c.args.c c.args.src
     (c.reg-v.ensures w.stack w.frames rep.stack rep.frames).is (c.reg-signal.ensures w.stack w.frames rep.stack rep.frames).is c.in-In.s _
-    (sym c.in-In.is ∙ c.coro_state.ensures start.args.sizes w (record { words = mem start b; fuel = b.fuel }) rep) (c.close_to.ensures w b rep snd)
+    (sym c.in-In.is ∙ c.coro_state.ensures c.args.sizes w (record { words = mem c.before.before.before.before.before.before.before.before.before.before.before.before.before.before.before.before.before.before.before.before.before.before.before.before.before.before.before.before.before.before b; fuel = b.fuel }) rep) (c.close_to.ensures w b rep snd)

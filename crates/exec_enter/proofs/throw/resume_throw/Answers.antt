@@ -17,13 +17,13 @@ mem c b = lent c.args.stack.now c.args.frames.now c.args.chain.now c.args.slots.
 
 pub returns-in-Refused : goal.returns-in-Refused
 returns-in-Refused c =
-    λ w b rep snd. throw-refused c.args.sizes (mem c.before.before.before.before.before.before.before.before.before.before.before.before.before b) c.args.m b.fuel w c.args.pc c.args.dst c.reg-v.result
+    λ w b rep snd. throw-refused c.args.sizes (mem c.before.before.before.before.before.before.before.before.before.before.before b) c.args.m b.fuel w c.args.pc c.args.dst c.reg-v.result
     c.reg-err.result c.args.c c.args.src
     (c.reg-v.ensures w.stack w.frames rep.stack rep.frames).is (c.reg-err.ensures w.stack w.frames rep.stack rep.frames).is _
-    (sym c.in-Refused.is ∙ c.coro_state.ensures c.args.sizes w (record { words = mem c.before.before.before.before.before.before.before.before.before.before.before.before.before b; fuel = b.fuel }) rep) rep
+    (sym c.in-Refused.is ∙ c.coro_state.ensures c.args.sizes w (record { words = mem c.before.before.before.before.before.before.before.before.before.before.before b; fuel = b.fuel }) rep) rep
 
 pub returns-in-In : goal.returns-in-In
 returns-in-In c =
     λ w b rep snd. throws c.args.sizes _ _ b.fuel w c.args.pc c.args.dst c.reg-v.result c.reg-err.result c.args.c c.args.src
     (c.reg-v.ensures w.stack w.frames rep.stack rep.frames).is (c.reg-err.ensures w.stack w.frames rep.stack rep.frames).is c.in-In.s _
-    (sym c.in-In.is ∙ c.coro_state.ensures c.args.sizes w (record { words = mem c.before.before.before.before.before.before.before.before.before.before.before.before.before.before.before.before.before.before.before.before.before.before.before.before.before.before.before.before.before.before.before.before b; fuel = b.fuel }) rep) (c.throw_to.ensures w b rep snd)
+    (sym c.in-In.is ∙ c.coro_state.ensures c.args.sizes w (record { words = mem c.before.before.before.before.before.before.before.before.before.before.before.before.before.before.before.before.before.before.before.before.before.before.before.before.before.before.before.before.before.before b; fuel = b.fuel }) rep) (c.throw_to.ensures w b rep snd)

@@ -11,34 +11,24 @@ use Rattle.exec_iter.proofs.iter.iter_next.Goals as goal
 abbrev Start : Type 0
 Start = lts.Start tie.the-claims reads.Pre reads.Post
 
-abbrev After-reg-it : Type 0
-After-reg-it = lts.After-reg tie.the-claims reads.Pre reads.Post
-
--- `iter_next` meets the definition: the words of two registers, and what the second names. Assumes nothing.
--- the ways back that several clauses take
-abbrev start_of : After-reg-it → Start
-start_of c = c.before.before.before.before.before.before.before
-
 abbrev mem : Start → Beside → Lent
 mem c b = lent c.args.stack.now c.args.frames.now c.args.chain.now c.args.slots.now c.args.saved_stack.now c.args.saved_frames.now b
 
 pub iter_on-requires : goal.iter_on-requires
 iter_on-requires c =
-    let p = (start_of c.before.before.before.before.before.before.before.before.before.before.before).requires in
+    let p = c.requires in
     record { entry = record { ok = p.ok; narrow = p.narrow; some = p.flag.some }; result = p.flag }
 
 pub returns-in-Refused : goal.returns-in-Refused
 returns-in-Refused c =
-    let start = start_of c.before.before.before.before.before.before in
-    λ w b rep snd. next-refused start.args.sizes (mem start b) start.args.m b.fuel w start.args.pc start.args.has c.reg-it.result start.args.val
-    c.reg-v.result start.args.iter start.args.src
+    λ w b rep snd. next-refused c.args.sizes (mem c.before.before.before.before.before.before.before.before.before.before.before b) c.args.m b.fuel w c.args.pc c.args.has c.reg-it.result c.args.val
+    c.reg-v.result c.args.iter c.args.src
     (c.reg-it.ensures w.stack w.frames rep.stack rep.frames).is (c.reg-v.ensures w.stack w.frames rep.stack rep.frames).is _
-    (sym c.in-Refused.is ∙ c.coro_state.ensures start.args.sizes w (record { words = mem start b; fuel = b.fuel }) rep) rep
+    (sym c.in-Refused.is ∙ c.coro_state.ensures c.args.sizes w (record { words = mem c.before.before.before.before.before.before.before.before.before.before.before b; fuel = b.fuel }) rep) rep
 
 pub returns-in-In : goal.returns-in-In
 returns-in-In c =
-    let start = start_of c.before.before.before.before.before.before.before.before.before.before.before.before.before.before.before.before.before.before.before.before.before.before.before.before.before in
-    λ w b rep snd. iterates start.args.sizes _ _ b.fuel w start.args.pc start.args.has c.reg-it.result start.args.val c.reg-v.result
-    start.args.iter start.args.src
+    λ w b rep snd. iterates c.args.sizes _ _ b.fuel w c.args.pc c.args.has c.reg-it.result c.args.val c.reg-v.result
+    c.args.iter c.args.src
     (c.reg-it.ensures w.stack w.frames rep.stack rep.frames).is (c.reg-v.ensures w.stack w.frames rep.stack rep.frames).is c.in-In.s _
-    (sym c.in-In.is ∙ c.coro_state.ensures start.args.sizes w (record { words = mem start b; fuel = b.fuel }) rep) (c.iter_on.ensures w b rep snd)
+    (sym c.in-In.is ∙ c.coro_state.ensures c.args.sizes w (record { words = mem c.before.before.before.before.before.before.before.before.before.before.before.before.before.before.before.before.before.before.before.before.before.before.before.before.before.before.before.before.before.before b; fuel = b.fuel }) rep) (c.iter_on.ensures w b rep snd)

@@ -25,9 +25,9 @@ around s b = record { words = mem s b; fuel = b.fuel }
 pub returns-in-Spent : goal.returns-in-Spent
 returns-in-Spent c =
     λ w b rep snd.
-    let did = c.charge_plain-paid.ensures c.args.m c.args.sizes w (around c.before.before.before.before.before.before.before.before b) rep in
-    not-paid c.args.hook c.args.pc c.args.dst c.args.c w c.args.sizes (mem c.before.before.before.before.before.before.before.before b) c.args.m c.charge_plain-paid.result.fuel
-    (subst (λ a. Does c.args.sizes (charge OptPc.None w) (mem c.before.before.before.before.before.before.before.before b) c.args.m c.charge_plain-paid.result.fuel a) c.in-Spent.is did)
+    let did = c.charge_plain-paid.ensures c.args.m c.args.sizes w (around c.before.before.before.before.before.before.before b) rep in
+    not-paid c.args.hook c.args.pc c.args.dst c.args.c w c.args.sizes (mem c.before.before.before.before.before.before.before b) c.args.m c.charge_plain-paid.result.fuel
+    (subst (λ a. Does c.args.sizes (charge OptPc.None w) (mem c.before.before.before.before.before.before.before b) c.args.m c.charge_plain-paid.result.fuel a) c.in-Spent.is did)
 
 pub push_hook-did-requires : goal.push_hook-did-requires
 push_hook-did-requires c = c.requires

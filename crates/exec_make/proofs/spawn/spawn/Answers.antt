@@ -15,9 +15,6 @@ use Rattle.exec_make.proofs.spawn.spawn.Goals as goal
 abbrev Start : Type 0
 Start = lts.Start tie.the-claims reads.Pre reads.Post
 
-abbrev In-Some-2 : Type 0
-In-Some-2 = lts.After-hook2 tie.the-claims reads.Pre reads.Post
-
 abbrev After-indirect-did : Type 0
 After-indirect-did = lts.After-indirect tie.the-claims reads.Pre reads.Post
 
@@ -25,23 +22,14 @@ After-indirect-did = lts.After-indirect tie.the-claims reads.Pre reads.Post
 abbrev mem : Start → Beside → Lent
 mem s b = top_making s.args.stack.now s.args.frames.now s.args.slots.now s.args.saved_stack.now s.args.saved_frames.now s.args.setup.now plain b
 
--- the words that the creation leaves
-abbrev start_of : After-indirect-did → Start
-start_of c = c.before.before.before.before.before.before.before.before.before.before.before.before.before.before
-
 abbrev left : After-indirect-did → Beside → Lent
 left c b =
-    let s = start_of c in
-    top_making s.args.stack.now s.args.frames.now c.indirect-did.new.slots c.indirect-did.new.saved_stack c.indirect-did.new.saved_frames s.args.setup.now plain b
-
--- the hook that the set-up has
-abbrev named-of : After-indirect-did → In-Some-2
-named-of c = c.before.before.before.before.before
+    top_making c.args.stack.now c.args.frames.now c.indirect-did.new.slots c.indirect-did.new.saved_stack c.indirect-did.new.saved_frames c.args.setup.now plain b
 
 pub returns-in_default : goal.returns-in_default
 returns-in_default c =
     λ w b rep snd.
-    no-hook c.args.sizes w (mem c.before.before.before.before.before.before.before.before.before.before b) c.args.m c.args.fuel rep c.args.pc c.args.dst c.args.callee c.args.argc
+    no-hook c.args.sizes w (mem c.before.before.before.before.before.before.before.before.before b) c.args.m c.args.fuel rep c.args.pc c.args.dst c.args.callee c.args.argc
     (sym c.in_default.is ∙ c.hook.ensures)
 
 pub indirect-did-requires : goal.indirect-did-requires
@@ -49,25 +37,24 @@ indirect-did-requires c = c.requires.indirect
 
 pub call_hook-requires : goal.call_hook-requires
 call_hook-requires c =
-    let named = named-of c.before.before.before.before.before.before.before.before.before.before.before.before.before in
-    let p = (start_of c.before.before.before.before.before.before.before.before.before.before.before.before.before).requires in let o = p.indirect.ok in let k = c.indirect-did.auto in
-    hook-asks p named.hook2.given.0.0 (sym named.hook2.given.1 ∙ named.before.before.hook.ensures)
-    (c.indirect-did.ensures o.world o.beside o.rep o.sound).world k.1.1.0 k.1.1.1.0 k.1.1.1.1.0
+    let p = c.requires in let o = p.indirect.ok in let k = c.indirect-did.auto in
+    hook-asks p c.in-Some.hook (sym c.in-Some.is ∙ c.hook.ensures)
+    (c.indirect-did.ensures o.world o.beside o.rep o.sound).world k.slots k.saved_stack k.saved_frames
 
 pub returns-in-Refused : goal.returns-in-Refused
 returns-in-Refused c =
-    let named = named-of c.before.before.before.before.before.before.before.before.before.before.before in let a = (start_of c.before.before.before.before.before.before.before.before.before.before.before).args in
+    let a = c.args in
     λ w b rep snd.
-    spawn-refused a.sizes w (mem (start_of c.before.before.before.before.before.before.before.before.before.before.before) b) a.m a.fuel rep a.pc a.dst a.callee a.argc
-    named.hook2.given.0.0 (sym named.hook2.given.1 ∙ named.before.before.hook.ensures) _ _ a.fuel _ c.in-Refused.g c.in-Refused.is
+    spawn-refused a.sizes w (mem c.before.before.before.before.before.before.before.before.before.before.before.before.before.before.before.before.before.before.before.before.before b) a.m a.fuel rep a.pc a.dst a.callee a.argc
+    c.in-Some.hook (sym c.in-Some.is ∙ c.hook.ensures) _ _ a.fuel _ c.in-Refused.g c.in-Refused.is
     (c.indirect-did.ensures w (record { words = b.words; fuel = a.fuel }) rep snd)
 
 pub returns-in-Word : goal.returns-in-Word
 returns-in-Word c =
-    let named = named-of c.before.before.before.before.before.before.before.before.before.before.before.before.before.before.before.before.before.before in let a = (start_of c.before.before.before.before.before.before.before.before.before.before.before.before.before.before.before.before.before.before).args in
+    let a = c.args in
     λ w b rep snd.
     let did = c.indirect-did.ensures w (record { words = b.words; fuel = a.fuel }) rep snd in
     let u = (indirect a.dst a.callee a.argc w).world in
-    spawn-called a.sizes w (mem (start_of c.before.before.before.before.before.before.before.before.before.before.before.before.before.before.before.before.before.before) b) a.m a.fuel rep a.pc a.dst a.callee a.argc
-    named.hook2.given.0.0 (sym named.hook2.given.1 ∙ named.before.before.hook.ensures) _ _ _ c.in-Word.c _ (sym c.in-Word.is ∙ did.answer)
-    (c.call_hook.ensures u (record { words = left c.before.before.before.before.before.before.before.before.before.before.before.before.before.before.before.before.before.before b; fuel = b.fuel }) did.world (→sound u (indirect-good a.dst a.callee a.argc w (known w snd)).sound))
+    spawn-called a.sizes w (mem c.before.before.before.before.before.before.before.before.before.before.before.before.before.before.before.before.before.before.before.before.before.before.before.before.before.before.before.before b) a.m a.fuel rep a.pc a.dst a.callee a.argc
+    c.in-Some.hook (sym c.in-Some.is ∙ c.hook.ensures) _ _ _ c.in-Word.c _ (sym c.in-Word.is ∙ did.answer)
+    (c.call_hook.ensures u (record { words = left c.before.before.before.before.before.before.before.before.before.before.before.before.before.before.before.before b; fuel = b.fuel }) did.world (→sound u (indirect-good a.dst a.callee a.argc w (known w snd)).sound))

@@ -25,5 +25,5 @@ returns-in-Key c =
 
 pub returns-in-Refused : goal.returns-in-Refused
 returns-in-Refused c =
-    λ w b rep snd. unkeyed-yield c.args.sizes (mem c.before.before.before.before.before.before.before.before.before.before b) c.args.m c.args.fuel w c.args.pc c.args.dst
+    λ w b rep snd. unkeyed-yield c.args.sizes (mem c.before.before.before.before.before.before.before.before b) c.args.m c.args.fuel w c.args.pc c.args.dst
     c.args.payload c.args.a c.in-Refused.f c.in-Refused.is rep

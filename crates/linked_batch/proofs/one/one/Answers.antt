@@ -1,5 +1,5 @@
 -- `one` meets its contract: no call, a switch, or any other. Assumes nothing.
-use mathlib.Core.Path.{◌≡◌, refl, sym, ◌∙◌}
+use mathlib.Core.Path.{◌≡◌, sym, ◌∙◌}
 use Prim.Native.Nat.{ℕ, ◌+◌, ◌*◌, ◌≤◌}
 use native.Mathlib.Omega.{arith}
 use lib.ListN.{length}
@@ -9,7 +9,7 @@ use Rattle.outer_call.specs.State.{nine}
 use Rattle.memory_calls.specs.Call.{six, op_of}
 use Rattle.outer_run.specs.Run.{read_in}
 use Rattle.linked_calls.specs.Host.{Host, host}
-use Rattle.linked_batch.proofs.Ones.{no_call, no_one, words-read, of-read}
+use Rattle.linked_batch.proofs.Ones.{no_call, no_one, words-read}
 use Rattle.linked_batch.proofs.one.one.Lts as lts
 use Rattle.linked_batch.proofs.one.one.Reads as reads
 use Rattle.linked_batch.proofs.one.one.Tie as tie
@@ -24,27 +24,6 @@ Else-calls-i-lt-CALL_WIDTH = lts.Else1 tie.the-claims reads.Pre reads.Post
 abbrev After-word-e : Type 0
 After-word-e = lts.After-word6 tie.the-claims reads.Pre reads.Post
 
-abbrev After-route_of : Type 0
-After-route_of = lts.After-route_of tie.the-claims reads.Pre reads.Post
-
-abbrev After-resume_call : Type 0
-After-resume_call = lts.After-resume_call tie.the-claims reads.Pre reads.Post
-
-abbrev After-slice_known-in-Resume-11-1 : Type 0
-After-slice_known-in-Resume-11-1 = lts.After-slice_known23 tie.the-claims reads.Pre reads.Post
-
-abbrev After-yield_call : Type 0
-After-yield_call = lts.After-yield_call tie.the-claims reads.Pre reads.Post
-
-abbrev After-slice_known-in-Yield-11-1 : Type 0
-After-slice_known-in-Yield-11-1 = lts.After-slice_known34 tie.the-claims reads.Pre reads.Post
-
-abbrev After-general_at : Type 0
-After-general_at = lts.After-general_at tie.the-claims reads.Pre reads.Post
-
-abbrev After-slice_known-in-General-11-1 : Type 0
-After-slice_known-in-General-11-1 = lts.After-slice_known45 tie.the-claims reads.Pre reads.Post
-
 -- `one` meets its contract: no call, a switch, or any other. Assumes nothing.
 abbrev mem : Start → Lent
 mem c =
@@ -54,46 +33,27 @@ mem c =
 abbrev of : Start → Host
 of c = host (mem c) c.args.machine.now c.args.fuel.now
 
--- the ways back
-abbrev start_of : Else-calls-i-lt-CALL_WIDTH → Start
-start_of c = c.before.before.before.before.before.before.before.before.before.before.before.before.before.before
-
-abbrev from-route : After-route_of → Start
-from-route c = start_of c.before.before.before.before.before.before.before
-
-abbrev resume-of : After-slice_known-in-Resume-11-1 → After-resume_call
-resume-of c = c.before.before.before.before.before.before.before.before.before.before.before.before.before.before.before.before.before.before.before.before.before.before
-
-abbrev yield-of : After-slice_known-in-Yield-11-1 → After-yield_call
-yield-of c = c.before.before.before.before.before.before.before.before.before.before.before.before.before.before.before.before.before.before.before.before.before.before
-
-abbrev general-of : After-slice_known-in-General-11-1 → After-general_at
-general-of c = c.before.before.before.before.before.before.before.before.before.before.before.before.before.before.before.before.before.before.before.before.before.before
-
 -- six words are there
-full : (c : Else-calls-i-lt-CALL_WIDTH) → let a = (start_of c).args in a.i * 6 + 6 ≤ length a.calls.now
-full c = let h = (start_of c).requires.call in let k = c.if-calls-i-lt-CALL_WIDTH.false in omega (arith, h, k)
+full : (c : Else-calls-i-lt-CALL_WIDTH) → let a = c.args in a.i * 6 + 6 ≤ length a.calls.now
+full c = let h = c.requires.call in let k = c.if-calls-i-lt-CALL_WIDTH.false in omega (arith, h, k)
 
 -- the call that they say, where the first and the last two are known
 read_as : {n d e : ℕ} (c : After-word-e) → c.word-n.result ≡ n → c.word-d.result ≡ d → c.word-e.result ≡ e →
-    let a = (start_of c.before.before.before.before.before.before).args in
+    let a = c.args in
     op_of (six n c.word-a.result c.word-b.result c.word-c.result d e) ≡ read_in a.calls.now a.i
 read_as c p q r =
-    let a = (start_of c.before.before.before.before.before.before).args in
+    let a = c.args in
     words-read a.calls.now a.i (full c.before.before.before.before.before.before) (sym p ∙ c.word-n.ensures) c.word-a.ensures c.word-b.ensures c.word-c.ensures
     (sym q ∙ c.word-d.ensures) (sym r ∙ c.word-e.ensures)
 
 pub put_at-requires : goal.put_at-requires
 put_at-requires c = c.requires.put.room
 
-pub returns-then-calls-i-lt-CALL_WIDTH : goal.returns-then-calls-i-lt-CALL_WIDTH
-returns-then-calls-i-lt-CALL_WIDTH c =
-    let a = c.args in
-    no_one (of c.before.before.before.before.before.before.before.before.before.before.before.before.before.before.before.before.before.before.before) c.requires.put.sound a.answers.now _ a.i (read_in a.calls.now a.i)
-    (no_call a.calls.now a.i c.requires.call c.if-calls-i-lt-CALL_WIDTH.true) c.put_at.ensures
-
 pub word-n-requires : goal.word-n-requires
-word-n-requires c = (full c.before, omega arith)
+word-n-requires c =
+    let a = c.args in
+    no_one (of c.before.before.before.before.before.before.before.before.before.before.before.before.before.before.before) c.requires.put.sound a.answers.now _ a.i (read_in a.calls.now a.i)
+    (no_call a.calls.now a.i c.requires.call c.if-calls-i-lt-CALL_WIDTH.true) c.put-at.ensures
 
 pub word-a-requires : goal.word-a-requires
 word-a-requires c = (full c.before.before, omega arith)
@@ -110,127 +70,11 @@ word-d-requires c = (full c.before.before.before.before.before, omega arith)
 pub word-e-requires : goal.word-e-requires
 word-e-requires c = (full c.before.before.before.before.before.before, omega arith)
 
-pub resume_call-requires : goal.resume_call-requires
-resume_call-requires c = record { put = (from-route c.before.before.before.before.before.before.before.before.before.before.before.before.before.before).requires.put; narrow = (c.route_of.ensures.resume c.in-Resume.is).1 }
-
-pub yield_call-requires : goal.yield_call-requires
-yield_call-requires c = record { put = (from-route c.before.before.before.before.before.before.before.before.before.before.before.before.before.before).requires.put; narrow = (c.route_of.ensures.yield c.in-Yield.is).1 }
+pub route_of-requires : goal.route_of-requires
+route_of-requires c = (full c.before.before.before.before.before.before.before, omega arith)
 
 pub general_at-requires : goal.general_at-requires
-general_at-requires c = (from-route c.before.before.before.before.before.before.before.before.before.before.before.before.before.before).requires.put
-
-pub shape_of-stack-in-Resume : goal.shape_of-stack-in-Resume
-shape_of-stack-in-Resume c = (resume-of c.before).resume-call.auto.0
-
-pub shape_of-frames-in-Resume : goal.shape_of-frames-in-Resume
-shape_of-frames-in-Resume c = (resume-of c.before).resume-call.auto.1.0
-
-pub shape_of-chain-in-Resume : goal.shape_of-chain-in-Resume
-shape_of-chain-in-Resume c = (resume-of c.before).resume-call.auto.1.1.0
-
-pub shape_of-slots-in-Resume : goal.shape_of-slots-in-Resume
-shape_of-slots-in-Resume c = (resume-of c.before).resume-call.auto.1.1.1.0
-
-pub shape_of-saved_stack-in-Resume : goal.shape_of-saved_stack-in-Resume
-shape_of-saved_stack-in-Resume c = (resume-of c.before).resume-call.auto.1.1.1.1.0
-
-pub shape_of-saved_frames-in-Resume : goal.shape_of-saved_frames-in-Resume
-shape_of-saved_frames-in-Resume c = (resume-of c.before).resume-call.auto.1.1.1.1.1.0
-
-pub shape_of-ready-in-Resume : goal.shape_of-ready-in-Resume
-shape_of-ready-in-Resume c = (resume-of c.before).resume-call.auto.1.1.1.1.1.1.0
-
-pub shape_of-finalize-in-Resume : goal.shape_of-finalize-in-Resume
-shape_of-finalize-in-Resume c = (resume-of c.before).resume-call.auto.1.1.1.1.1.1.1.0
-
-pub shape_of-machine-in-Resume : goal.shape_of-machine-in-Resume
-shape_of-machine-in-Resume c = (resume-of c.before).resume-call.auto.1.1.1.1.1.1.1.1.1.0
-
-pub shape_of-fuel-in-Resume : goal.shape_of-fuel-in-Resume
-shape_of-fuel-in-Resume c = (resume-of c.before).resume-call.auto.1.1.1.1.1.1.1.1.1.1.0
-
-pub shape_of-answers-in-Resume : goal.shape_of-answers-in-Resume
-shape_of-answers-in-Resume c = (resume-of c.before).resume-call.auto.1.1.1.1.1.1.1.1.1.1.1.0
-
-pub returns-in-Resume : goal.returns-in-Resume
-returns-in-Resume c =
-    let at-enum-told = (resume-of c.before).before.before.before.before.before.before.before.before.before.before.before.before in let at-route-of = at-enum-told.before.before in
-    let is = at-route-of.route-of.ensures.resume at-enum-told.enum_told.given.1 in
-    of-read (read_as at-route-of.before is.0 refl is.2) (resume-of c.before).resume-call.ensures
-
-pub shape_of-stack-in-Yield : goal.shape_of-stack-in-Yield
-shape_of-stack-in-Yield c = (yield-of c.before).yield-call.auto.0
-
-pub shape_of-frames-in-Yield : goal.shape_of-frames-in-Yield
-shape_of-frames-in-Yield c = (yield-of c.before).yield-call.auto.1.0
-
-pub shape_of-chain-in-Yield : goal.shape_of-chain-in-Yield
-shape_of-chain-in-Yield c = (yield-of c.before).yield-call.auto.1.1.0
-
-pub shape_of-slots-in-Yield : goal.shape_of-slots-in-Yield
-shape_of-slots-in-Yield c = (yield-of c.before).yield-call.auto.1.1.1.0
-
-pub shape_of-saved_stack-in-Yield : goal.shape_of-saved_stack-in-Yield
-shape_of-saved_stack-in-Yield c = (yield-of c.before).yield-call.auto.1.1.1.1.0
-
-pub shape_of-saved_frames-in-Yield : goal.shape_of-saved_frames-in-Yield
-shape_of-saved_frames-in-Yield c = (yield-of c.before).yield-call.auto.1.1.1.1.1.0
-
-pub shape_of-ready-in-Yield : goal.shape_of-ready-in-Yield
-shape_of-ready-in-Yield c = (yield-of c.before).yield-call.auto.1.1.1.1.1.1.0
-
-pub shape_of-finalize-in-Yield : goal.shape_of-finalize-in-Yield
-shape_of-finalize-in-Yield c = (yield-of c.before).yield-call.auto.1.1.1.1.1.1.1.0
-
-pub shape_of-machine-in-Yield : goal.shape_of-machine-in-Yield
-shape_of-machine-in-Yield c = (yield-of c.before).yield-call.auto.1.1.1.1.1.1.1.1.1.0
-
-pub shape_of-fuel-in-Yield : goal.shape_of-fuel-in-Yield
-shape_of-fuel-in-Yield c = (yield-of c.before).yield-call.auto.1.1.1.1.1.1.1.1.1.1.0
-
-pub shape_of-answers-in-Yield : goal.shape_of-answers-in-Yield
-shape_of-answers-in-Yield c = (yield-of c.before).yield-call.auto.1.1.1.1.1.1.1.1.1.1.1.0
+general_at-requires c = record { put = c.requires.put; narrow = (c.route_of.ensures.resume c.enum_told.given.1).1 }
 
 pub returns-in-Yield : goal.returns-in-Yield
-returns-in-Yield c =
-    let at-enum-told2 = (yield-of c.before).before.before.before.before.before.before.before.before.before.before.before.before in let at-route-of = at-enum-told2.before.before in
-    let is = at-route-of.route-of.ensures.yield at-enum-told2.enum-told2.given.1 in
-    of-read (read_as at-route-of.before is.0 is.2 is.3) (yield-of c.before).yield-call.ensures
-
-pub shape_of-stack-in-General : goal.shape_of-stack-in-General
-shape_of-stack-in-General c = (general-of c.before).general-at.auto.0
-
-pub shape_of-frames-in-General : goal.shape_of-frames-in-General
-shape_of-frames-in-General c = (general-of c.before).general-at.auto.1.0
-
-pub shape_of-chain-in-General : goal.shape_of-chain-in-General
-shape_of-chain-in-General c = (general-of c.before).general-at.auto.1.1.0
-
-pub shape_of-slots-in-General : goal.shape_of-slots-in-General
-shape_of-slots-in-General c = (general-of c.before).general-at.auto.1.1.1.0
-
-pub shape_of-saved_stack-in-General : goal.shape_of-saved_stack-in-General
-shape_of-saved_stack-in-General c = (general-of c.before).general-at.auto.1.1.1.1.0
-
-pub shape_of-saved_frames-in-General : goal.shape_of-saved_frames-in-General
-shape_of-saved_frames-in-General c = (general-of c.before).general-at.auto.1.1.1.1.1.0
-
-pub shape_of-ready-in-General : goal.shape_of-ready-in-General
-shape_of-ready-in-General c = (general-of c.before).general-at.auto.1.1.1.1.1.1.0
-
-pub shape_of-finalize-in-General : goal.shape_of-finalize-in-General
-shape_of-finalize-in-General c = (general-of c.before).general-at.auto.1.1.1.1.1.1.1.0
-
-pub shape_of-machine-in-General : goal.shape_of-machine-in-General
-shape_of-machine-in-General c = (general-of c.before).general-at.auto.1.1.1.1.1.1.1.1.1.0
-
-pub shape_of-fuel-in-General : goal.shape_of-fuel-in-General
-shape_of-fuel-in-General c = (general-of c.before).general-at.auto.1.1.1.1.1.1.1.1.1.1.0
-
-pub shape_of-answers-in-General : goal.shape_of-answers-in-General
-shape_of-answers-in-General c = (general-of c.before).general-at.auto.1.1.1.1.1.1.1.1.1.1.1.0
-
-pub returns-in-General : goal.returns-in-General
-returns-in-General c =
-    of-read (read_as (general-of c.before).before.before.before.before.before.before.before.before.before.before.before.before.before.before.before refl refl refl)
-    (general-of c.before).general-at.ensures
+returns-in-Yield c = record { put = c.requires.put; narrow = (c.route_of.ensures.yield c.in-Yield.is).1 }

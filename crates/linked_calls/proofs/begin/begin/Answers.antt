@@ -20,9 +20,6 @@ After-set_up-did = lts.After-set_up tie.the-claims reads.Pre reads.Post
 abbrev After-tell-n : Type 0
 After-tell-n = lts.After-tell tie.the-claims reads.Pre reads.Post
 
-abbrev After-slice_known-25-1 : Type 0
-After-slice_known-25-1 = lts.After-slice_known25 tie.the-claims reads.Pre reads.Post
-
 -- `begin` meets its contract: refused, or a fresh machine in words. Assumes nothing.
 abbrev mem : Start → Lent
 mem c = nine c.args.stack.now c.args.frames.now c.args.chain.now c.args.slots.now c.args.saved_stack.now c.args.saved_frames.now c.args.ready.now c.args.finalize.now c.args.setup.now plain
@@ -30,29 +27,19 @@ mem c = nine c.args.stack.now c.args.frames.now c.args.chain.now c.args.slots.no
 abbrev of : Start → Host
 of c = host (mem c) c.args.machine.now c.args.fuel.now
 
-abbrev start_of : After-set_up-did → Start
-start_of c = c.before.before.before.before.before.before.before.before.before.before.before.before.before.before.before.before.before.before.before.before.before.before.before.before.before
-
-abbrev set-up-of : After-tell-n → After-set_up-did
-set-up-of c = c.before.before.before.before.before.before.before.before.before.before.before.before.before.before.before.before.before.before.before.before.before.before
-
-abbrev tell-of : After-slice_known-25-1 → After-tell-n
-tell-of c = c.before.before.before.before.before.before.before.before.before.before.before.before.before.before.before.before
-
 abbrev left_by : After-set_up-did → Lent
 left_by c = nine c.set_up-did.new.stack c.set_up-did.new.frames c.set_up-did.new.chain c.set_up-did.new.slots
     c.set_up-did.new.saved_stack c.set_up-did.new.saved_frames c.set_up-did.new.ready
     c.set_up-did.new.finalize c.set_up-did.new.setup plain
 
-tried : (c : After-tell-n) → let set = set-up-of c in let start = start_of set in Tried (of start) start.args.given.now (left_by set) set.set-up.result c.tell-n.result
+tried : (c : After-tell-n) → Tried (of c.before.before.before.before.before.before.before.before.before.before.before.before.before.before.before.before.before.before.before.before.before.before.before.before.before.before.before.before.before.before.before.before.before.before.before.before.before.before.before.before.before.before.before.before.before.before.before) c.args.given.now (left_by c.before.before.before.before.before.before.before.before.before.before.before.before.before.before.before.before.before.before.before.before.before.before) c.set_up-did.result c.tell-n.result
 tried c =
-    let set = set-up-of c in let at_fuel = set.before.before.before.before.before.before.before.before.before.before in let at-machine = at_fuel.before.before in
     record {
-      machine = at-machine.machine-of.result;
-      fuel = at_fuel.fuel-of.result;
-      machine-is = at-machine.machine-of.ensures;
-      fuel-is = at_fuel.fuel-of.ensures;
-      did = set.set-up.ensures;
+      machine = c.machine_of-m.result;
+      fuel = c.fuel_of-f.result;
+      machine-is = c.machine_of-m.ensures;
+      fuel-is = c.fuel_of-f.ensures;
+      did = c.set_up-did.ensures;
       told = c.tell-n.ensures.1;
     }
 
@@ -63,85 +50,81 @@ pub fuel_of-f-requires : goal.fuel_of-f-requires
 fuel_of-f-requires c = c.requires.fuel
 
 pub tell-n-requires : goal.tell-n-requires
-tell-n-requires c = (start_of c.before.before.before.before.before.before.before.before.before.before.before.before.before.before.before.before.before.before.before.before.before.before).requires.answer
+tell-n-requires c = c.requires.answer
 
 pub shape_of-stack-then-n-ne0 : goal.shape_of-stack-then-n-ne0
-shape_of-stack-then-n-ne0 c = (set-up-of c.before.before.before.before).set-up.auto.0
+shape_of-stack-then-n-ne0 c = c.set_up-did.auto.stack
 
 pub shape_of-frames-then-n-ne0 : goal.shape_of-frames-then-n-ne0
-shape_of-frames-then-n-ne0 c = (set-up-of c.before.before.before.before).set-up.auto.1.0
+shape_of-frames-then-n-ne0 c = c.set_up-did.auto.frames
 
 pub shape_of-chain-then-n-ne0 : goal.shape_of-chain-then-n-ne0
-shape_of-chain-then-n-ne0 c = (set-up-of c.before.before.before.before).set-up.auto.1.1.0
+shape_of-chain-then-n-ne0 c = c.set_up-did.auto.chain
 
 pub shape_of-slots-then-n-ne0 : goal.shape_of-slots-then-n-ne0
-shape_of-slots-then-n-ne0 c = (set-up-of c.before.before.before.before).set-up.auto.1.1.1.0
+shape_of-slots-then-n-ne0 c = c.set_up-did.auto.slots
 
 pub shape_of-saved_stack-then-n-ne0 : goal.shape_of-saved_stack-then-n-ne0
-shape_of-saved_stack-then-n-ne0 c = (set-up-of c.before.before.before.before).set-up.auto.1.1.1.1.0
+shape_of-saved_stack-then-n-ne0 c = c.set_up-did.auto.saved_stack
 
 pub shape_of-saved_frames-then-n-ne0 : goal.shape_of-saved_frames-then-n-ne0
-shape_of-saved_frames-then-n-ne0 c = (set-up-of c.before.before.before.before).set-up.auto.1.1.1.1.1.0
+shape_of-saved_frames-then-n-ne0 c = c.set_up-did.auto.saved_frames
 
 pub shape_of-ready-then-n-ne0 : goal.shape_of-ready-then-n-ne0
-shape_of-ready-then-n-ne0 c = (set-up-of c.before.before.before.before).set-up.auto.1.1.1.1.1.1.0
+shape_of-ready-then-n-ne0 c = c.set_up-did.auto.ready
 
 pub shape_of-finalize-then-n-ne0 : goal.shape_of-finalize-then-n-ne0
-shape_of-finalize-then-n-ne0 c = (set-up-of c.before.before.before.before).set-up.auto.1.1.1.1.1.1.1.0
+shape_of-finalize-then-n-ne0 c = c.set_up-did.auto.finalize
 
 pub shape_of-setup-then-n-ne0 : goal.shape_of-setup-then-n-ne0
-shape_of-setup-then-n-ne0 c = (set-up-of c.before.before.before.before).set-up.auto.1.1.1.1.1.1.1.1.0
+shape_of-setup-then-n-ne0 c = c.set_up-did.auto.setup
 
 pub shape_of-answer-then-n-ne0 : goal.shape_of-answer-then-n-ne0
 shape_of-answer-then-n-ne0 c = c.tell-n.auto.answer
 
 pub returns-then-n-ne0 : goal.returns-then-n-ne0
-returns-then-n-ne0 c =
-    let start = start_of (set-up-of c.before.before.before.before) in
-    begin-refused (of start) start.args.given.now start.args.answer.now (tried c.before.before.before.before) c.if-n-ne0.true _ c.tell-n.ensures.0
+returns-then-n-ne0 c = begin-refused (of c.before.before.before.before.before.before.before.before.before.before.before.before.before.before.before.before.before.before.before.before.before.before.before.before.before.before.before.before.before.before.before.before.before.before.before.before.before.before.before.before.before.before.before.before.before.before.before.before.before.before.before) c.args.given.now c.args.answer.now (tried c.before.before.before.before) c.if-n-ne0.true _ c.tell-n.ensures.0
 
 pub sizes-sizes-requires : goal.sizes-sizes-requires
 sizes-sizes-requires c =
-    let start = start_of (set-up-of c.before.before.before.before) in let a = start.args in
-    fits-given (of start) a.given.now a.answer.now (accepted (of start) a.given.now a.answer.now (tried c.before.before.before.before) c.if-n-ne0.false)
+    let a = c.args in
+    fits-given (of c.before.before.before.before.before.before.before.before.before.before.before.before.before.before.before.before.before.before.before.before.before.before.before.before.before.before.before.before.before.before.before.before.before.before.before.before.before.before.before.before.before.before.before.before.before.before.before.before.before.before.before) a.given.now a.answer.now (accepted (of c.before.before.before.before.before.before.before.before.before.before.before.before.before.before.before.before.before.before.before.before.before.before.before.before.before.before.before.before.before.before.before.before.before.before.before.before.before.before.before.before.before.before.before.before.before.before.before.before.before.before.before) a.given.now a.answer.now (tried c.before.before.before.before) c.if-n-ne0.false)
 
 pub put_machine-requires : goal.put_machine-requires
-put_machine-requires c = (start_of (set-up-of c.before.before.before.before.before.before)).requires.machine
+put_machine-requires c = c.requires.machine
 
 pub put_sizes-requires : goal.put_sizes-requires
-put_sizes-requires c =
-    let start = start_of (set-up-of c.before.before.before.before.before.before.before.before.before.before) in
-    let k = c.put_machine.auto.ws in let h = start.requires.machine in omega arith
+put_sizes-requires c = let k = c.put_machine.auto.ws in let h = c.requires.machine in omega arith
 
 pub put_fuel-requires : goal.put_fuel-requires
-put_fuel-requires c = (start_of (set-up-of c.before.before.before.before.before.before.before.before.before.before.before.before.before.before)).requires.fuel
+put_fuel-requires c = c.requires.fuel
 
 pub shape_of-stack : goal.shape_of-stack
-shape_of-stack c = (set-up-of (tell-of c.before)).set-up.auto.0
+shape_of-stack c = c.set_up-did.auto.stack
 
 pub shape_of-frames : goal.shape_of-frames
-shape_of-frames c = (set-up-of (tell-of c.before)).set-up.auto.1.0
+shape_of-frames c = c.set_up-did.auto.frames
 
 pub shape_of-chain : goal.shape_of-chain
-shape_of-chain c = (set-up-of (tell-of c.before)).set-up.auto.1.1.0
+shape_of-chain c = c.set_up-did.auto.chain
 
 pub shape_of-slots : goal.shape_of-slots
-shape_of-slots c = (set-up-of (tell-of c.before)).set-up.auto.1.1.1.0
+shape_of-slots c = c.set_up-did.auto.slots
 
 pub shape_of-saved_stack : goal.shape_of-saved_stack
-shape_of-saved_stack c = (set-up-of (tell-of c.before)).set-up.auto.1.1.1.1.0
+shape_of-saved_stack c = c.set_up-did.auto.saved_stack
 
 pub shape_of-saved_frames : goal.shape_of-saved_frames
-shape_of-saved_frames c = (set-up-of (tell-of c.before)).set-up.auto.1.1.1.1.1.0
+shape_of-saved_frames c = c.set_up-did.auto.saved_frames
 
 pub shape_of-ready : goal.shape_of-ready
-shape_of-ready c = (set-up-of (tell-of c.before)).set-up.auto.1.1.1.1.1.1.0
+shape_of-ready c = c.set_up-did.auto.ready
 
 pub shape_of-finalize : goal.shape_of-finalize
-shape_of-finalize c = (set-up-of (tell-of c.before)).set-up.auto.1.1.1.1.1.1.1.0
+shape_of-finalize c = c.set_up-did.auto.finalize
 
 pub shape_of-setup : goal.shape_of-setup
-shape_of-setup c = (set-up-of (tell-of c.before)).set-up.auto.1.1.1.1.1.1.1.1.0
+shape_of-setup c = c.set_up-did.auto.setup
 
 pub shape_of-machine : goal.shape_of-machine
 shape_of-machine c = c.put_sizes.auto.ws ∙ c.put_machine.auto.ws
@@ -150,10 +133,10 @@ pub shape_of-fuel : goal.shape_of-fuel
 shape_of-fuel c = c.put_fuel.auto.ws
 
 pub shape_of-answer : goal.shape_of-answer
-shape_of-answer c = (tell-of c.before).tell.auto.0
+shape_of-answer c = c.tell-n.auto.answer
 
 pub returns : goal.returns
 returns c =
-    let told = tell-of c.before in let start = start_of (set-up-of told) in let a = start.args in
-    begin-done (of start) a.given.now a.answer.now (tried told) c.if-n-ne0.false c.sizes-sizes.result c.sizes-sizes.ensures.words _ _ _ _
-    c.put_machine.ensures c.put_sizes.ensures c.put_fuel.ensures told.tell.ensures.0
+    let a = c.args in
+    begin-done (of c.before.before.before.before.before.before.before.before.before.before.before.before.before.before.before.before.before.before.before.before.before.before.before.before.before.before.before.before.before.before.before.before.before.before.before.before.before.before.before.before.before.before.before.before.before.before.before.before.before.before.before.before.before.before.before.before.before.before.before.before.before.before.before.before) a.given.now a.answer.now (tried c.before.before.before.before.before.before.before.before.before.before.before.before.before.before.before.before.before) c.if-n-ne0.false c.sizes-sizes.result c.sizes-sizes.ensures.words _ _ _ _
+    c.put_machine.ensures c.put_sizes.ensures c.put_fuel.ensures c.tell-n.ensures.0

@@ -21,14 +21,8 @@ Start = lts.Start tie.the-claims reads.Pre reads.Post
 abbrev Else-not-ok : Type 0
 Else-not-ok = lts.Else1 tie.the-claims reads.Pre reads.Post
 
-abbrev After-machine_of-m : Type 0
-After-machine_of-m = lts.After-machine_of tie.the-claims reads.Pre reads.Post
-
 abbrev After-do_read-did : Type 0
 After-do_read-did = lts.After-do_read tie.the-claims reads.Pre reads.Post
-
-abbrev After-slice_known-22-1 : Type 0
-After-slice_known-22-1 = lts.After-slice_known23 tie.the-claims reads.Pre reads.Post
 
 -- `do_call` meets its contract: refused, or what `do_read` leaves, in words. Assumes nothing.
 abbrev mem : Start → Lent
@@ -37,32 +31,16 @@ mem c = nine c.args.stack.now c.args.frames.now c.args.chain.now c.args.slots.no
 abbrev of : Start → Host
 of c = host (mem c) c.args.machine.now c.args.fuel.now
 
-abbrev start_of : Else-not-ok → Start
-start_of c = c.before.before.before.before.before.before.before.before.before.before.before.before.before.before
-
--- the ways back from what `do_read` leaves
-abbrev machine-at : After-do_read-did → After-machine_of-m
-machine-at c = c.before.before.before.before.before.before.before.before.before.before.before.before
-
-abbrev else-of : After-machine_of-m → Else-not-ok
-else-of c = c.before
-
-abbrev begin-of : After-do_read-did → Start
-begin-of c = start_of (else-of (machine-at c))
-
 abbrev left_by : After-do_read-did → Lent
 left_by c = nine c.do_read-did.new.stack c.do_read-did.new.frames c.do_read-did.new.chain c.do_read-did.new.slots
     c.do_read-did.new.saved_stack c.do_read-did.new.saved_frames c.do_read-did.new.ready
-    c.do_read-did.new.finalize (begin-of c).args.setup.now plain
+    c.do_read-did.new.finalize c.args.setup.now plain
 
-sound : (c : Else-not-ok) → passes_test (of (start_of c)) ≡ true
-sound c = sym (start_of c).requires.known ∙ c.if-not-ok.false
+sound : (c : Else-not-ok) → passes_test (of c.before.before.before.before.before.before.before.before.before.before.before.before.before.before) ≡ true
+sound c = sym c.requires.known ∙ c.if-not-ok.false
 
-long : (c : Else-not-ok) → let a = (start_of c).args in (25 ≤ length a.machine.now) × (4 ≤ length a.fuel.now)
-long c = let a = (start_of c).args in long-numbers a.machine.now a.fuel.now (numbers (of (start_of c)) (sound c))
-
-abbrev do-read-of : After-slice_known-22-1 → After-do_read-did
-do-read-of c = c.before.before.before.before.before.before.before.before.before.before.before.before.before.before.before.before.before.before.before.before.before.before.before.before.before.before.before.before.before.before
+long : (c : Else-not-ok) → let a = c.args in (25 ≤ length a.machine.now) × (4 ≤ length a.fuel.now)
+long c = let a = c.args in long-numbers a.machine.now a.fuel.now (numbers (of c.before.before.before.before.before.before.before.before.before.before.before.before.before.before) (sound c))
 
 pub tell-requires : goal.tell-requires
 tell-requires c = c.requires.room
@@ -86,42 +64,41 @@ fuel_of-f-requires c = (long c.before.before.before).1
 
 pub do_read-did-requires : goal.do_read-did-requires
 do_read-did-requires c =
-    let at-if = else-of c.before.before.before.before.before.before.before.before.before.before.before.before in
-    may_read (of (start_of at-if)) (sound at-if) c.machine_of-m.result c.fuel_of-f.result c.sizes_of-sizes.result
+    may_read (of c.before.before.before.before.before.before.before.before.before.before.before.before.before.before.before.before.before.before.before.before.before.before.before.before.before.before.before) (sound c.before.before.before.before.before.before.before.before.before.before.before.before.before) c.machine_of-m.result c.fuel_of-f.result c.sizes_of-sizes.result
     c.machine_of-m.ensures c.fuel_of-f.ensures c.sizes_of-sizes.ensures
 
 pub put_machine-requires : goal.put_machine-requires
-put_machine-requires c = (long (else-of (machine-at c.before.before.before.before.before.before.before.before.before.before.before.before.before.before.before.before.before.before.before.before))).0
+put_machine-requires c = (long c.before.before.before.before.before.before.before.before.before.before.before.before.before.before.before.before.before.before.before.before.before.before.before.before.before.before.before.before.before.before.before.before.before).0
 
 pub put_fuel-requires : goal.put_fuel-requires
-put_fuel-requires c = (long (else-of (machine-at c.before.before.before.before.before.before.before.before.before.before.before.before.before.before.before.before.before.before.before.before.before.before.before.before))).1
+put_fuel-requires c = (long c.before.before.before.before.before.before.before.before.before.before.before.before.before.before.before.before.before.before.before.before.before.before.before.before.before.before.before.before.before.before.before.before.before.before.before.before.before).1
 
 pub tell-requires-2 : goal.tell-requires-2
-tell-requires-2 c = (begin-of c.before.before.before.before.before.before.before.before.before.before.before.before.before.before.before.before.before.before.before.before.before.before.before.before.before.before.before.before).requires.room
+tell-requires-2 c = c.requires.room
 
 pub shape_of-stack : goal.shape_of-stack
-shape_of-stack c = (do-read-of c.before).do-read.auto.0
+shape_of-stack c = c.do_read-did.auto.stack
 
 pub shape_of-frames : goal.shape_of-frames
-shape_of-frames c = (do-read-of c.before).do-read.auto.1.0
+shape_of-frames c = c.do_read-did.auto.frames
 
 pub shape_of-chain : goal.shape_of-chain
-shape_of-chain c = (do-read-of c.before).do-read.auto.1.1.0
+shape_of-chain c = c.do_read-did.auto.chain
 
 pub shape_of-slots : goal.shape_of-slots
-shape_of-slots c = (do-read-of c.before).do-read.auto.1.1.1.0
+shape_of-slots c = c.do_read-did.auto.slots
 
 pub shape_of-saved_stack : goal.shape_of-saved_stack
-shape_of-saved_stack c = (do-read-of c.before).do-read.auto.1.1.1.1.0
+shape_of-saved_stack c = c.do_read-did.auto.saved_stack
 
 pub shape_of-saved_frames : goal.shape_of-saved_frames
-shape_of-saved_frames c = (do-read-of c.before).do-read.auto.1.1.1.1.1.0
+shape_of-saved_frames c = c.do_read-did.auto.saved_frames
 
 pub shape_of-ready : goal.shape_of-ready
-shape_of-ready c = (do-read-of c.before).do-read.auto.1.1.1.1.1.1.0
+shape_of-ready c = c.do_read-did.auto.ready
 
 pub shape_of-finalize : goal.shape_of-finalize
-shape_of-finalize c = (do-read-of c.before).do-read.auto.1.1.1.1.1.1.1.0
+shape_of-finalize c = c.do_read-did.auto.finalize
 
 pub shape_of-machine : goal.shape_of-machine
 shape_of-machine c = c.put_machine.auto.ws
@@ -134,9 +111,8 @@ shape_of-answer c = c.tell-2.auto.answer
 
 pub returns : goal.returns
 returns c =
-    let did = do-read-of c.before in let at_op = did.before.before.before.before.before.before.before.before.before in let at_fuel = at_op.before in
-    let at-machine = machine-at did in let at-if = else-of at-machine in let start = start_of at-if in let a = start.args in let r = op_of a.call.now in
-    done (of start) r a.answer.now _ a.ok (not-false _ at-if.if1.left)
-    (left_in (of start) r a.answer.now at-machine.machine-of.result at_fuel.fuel-of.result at_op.op-of.result (left_by did) did.do-read.result _ _ _ c.tell-2.result
-    at-machine.machine-of.ensures at_fuel.fuel-of.ensures at_op.op-of.ensures did.do-read.ensures
+    let a = c.args in let r = op_of a.call.now in
+    done (of c.before.before.before.before.before.before.before.before.before.before.before.before.before.before.before.before.before.before.before.before.before.before.before.before.before.before.before.before.before.before.before.before.before.before.before.before.before.before.before.before.before.before.before.before.before.before.before.before.before.before.before.before.before.before.before.before.before.before) r a.answer.now _ a.ok c.if-not-ok.false
+    (left_in (of c.before.before.before.before.before.before.before.before.before.before.before.before.before.before.before.before.before.before.before.before.before.before.before.before.before.before.before.before.before.before.before.before.before.before.before.before.before.before.before.before.before.before.before.before.before.before.before.before.before.before.before.before.before.before.before.before.before.before) r a.answer.now c.machine_of-m.result c.fuel_of-f.result c.op_of-read.result (left_by c.before.before.before.before.before.before.before.before.before.before.before.before.before.before.before.before.before.before.before.before.before.before.before.before.before.before.before.before.before.before.before) c.do_read-did.result _ _ _ c.tell-2.result
+    c.machine_of-m.ensures c.fuel_of-f.ensures c.op_of-read.ensures c.do_read-did.ensures
     c.put_machine.ensures c.put_fuel.ensures c.tell-2.ensures.0 c.tell-2.ensures.1)

@@ -28,14 +28,11 @@ mem c = nine c.args.stack.now c.args.frames.now c.args.chain.now c.args.slots.no
 abbrev of : Start → Host
 of c = host (mem c) c.args.machine.now c.args.fuel.now
 
-abbrev start_of : Else-not-ok → Start
-start_of c = c.before.before.before.before.before.before.before.before.before.before.before.before.before
+sound : (c : Else-not-ok) → passes_test (of c.before.before.before.before.before.before.before.before.before.before.before.before.before) ≡ true
+sound c = sym c.requires.known ∙ c.if-not-ok.false
 
-sound : (c : Else-not-ok) → passes_test (of (start_of c)) ≡ true
-sound c = sym (start_of c).requires.known ∙ c.if-not-ok.false
-
-long : (c : Else-not-ok) → let a = (start_of c).args in (25 ≤ length a.machine.now) × (4 ≤ length a.fuel.now)
-long c = let a = (start_of c).args in long-numbers a.machine.now a.fuel.now (numbers (of (start_of c)) (sound c))
+long : (c : Else-not-ok) → let a = c.args in (25 ≤ length a.machine.now) × (4 ≤ length a.fuel.now)
+long c = let a = c.args in long-numbers a.machine.now a.fuel.now (numbers (of c.before.before.before.before.before.before.before.before.before.before.before.before.before) (sound c))
 
 pub tell-requires : goal.tell-requires
 tell-requires c = c.requires.room
@@ -58,7 +55,7 @@ pub put_fuel-requires : goal.put_fuel-requires
 put_fuel-requires c = (long c.before.before.before.before.before.before).1
 
 pub tell-requires-2 : goal.tell-requires-2
-tell-requires-2 c = (start_of c.before.before.before.before.before.before.before.before.before.before).requires.room
+tell-requires-2 c = c.requires.room
 
 pub shape_of-fuel : goal.shape_of-fuel
 shape_of-fuel c = c.put_fuel.auto.ws
@@ -68,9 +65,8 @@ shape_of-answer c = c.tell-2.auto.answer
 
 pub returns : goal.returns
 returns c =
-    let start = start_of c.before.before.before.before.before.before.before.before.before.before.before.before.before in
-    let a = start.args in
-    grant-done (of start) a.amount a.answer.now start.requires.room a.ok start.requires.known
+    let a = c.args in
+    grant-done (of c.before.before.before.before.before.before.before.before.before.before.before.before.before.before.before.before.before.before.before.before.before.before.before.before.before.before) a.amount a.answer.now c.requires.room a.ok c.requires.known
     c.if-not-ok.false
     c.machine_of-m.result c.fuel_of-f.result c.granted-did.result c.machine_of-m.ensures c.fuel_of-f.ensures
     c.granted-did.ensures _ _ c.tell-2.result c.put_fuel.ensures c.tell-2.ensures.0 c.tell-2.ensures.1

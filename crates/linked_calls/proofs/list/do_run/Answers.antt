@@ -20,9 +20,6 @@ use Rattle.linked_calls.proofs.list.do_run.Goals as goal
 abbrev Start : Type 0
 Start = lts.Start tie.the-claims reads.Pre reads.Post
 
-abbrev After-count-n : Type 0
-After-count-n = lts.After-count tie.the-claims reads.Pre reads.Post
-
 abbrev Else-answers-n : Type 0
 Else-answers-n = lts.Else1 tie.the-claims reads.Pre reads.Post
 
@@ -32,9 +29,6 @@ Else-not-ok = lts.Else2 tie.the-claims reads.Pre reads.Post
 abbrev After-run_list-did : Type 0
 After-run_list-did = lts.After-run_list tie.the-claims reads.Pre reads.Post
 
-abbrev After-slice_known-22-1 : Type 0
-After-slice_known-22-1 = lts.After-slice_known23 tie.the-claims reads.Pre reads.Post
-
 -- `do_run` meets its contract: 14, refused, or what `run_list` leaves, in words. Assumes nothing.
 abbrev mem : Start → Lent
 mem c = nine c.args.stack.now c.args.frames.now c.args.chain.now c.args.slots.now c.args.saved_stack.now c.args.saved_frames.now c.args.ready.now c.args.finalize.now c.args.setup.now plain
@@ -42,27 +36,15 @@ mem c = nine c.args.stack.now c.args.frames.now c.args.chain.now c.args.slots.no
 abbrev of : Start → Host
 of c = host (mem c) c.args.machine.now c.args.fuel.now
 
-abbrev count_of : Else-not-ok → After-count-n
-count_of c = c.before.before
+sound : (c : Else-not-ok) → passes_test (of c.before.before.before.before.before.before.before.before.before.before.before.before.before.before.before.before) ≡ true
+sound c = sym c.requires ∙ c.if-not-ok.false
 
-abbrev start_of : After-count-n → Start
-start_of c = c.before.before.before.before.before.before.before.before.before.before.before.before.before.before
+long : (c : Else-not-ok) → let a = c.args in (25 ≤ length a.machine.now) × (4 ≤ length a.fuel.now)
+long c = long-numbers c.args.machine.now c.args.fuel.now (numbers (of c.before.before.before.before.before.before.before.before.before.before.before.before.before.before.before.before) (sound c))
 
-abbrev run-list-of : After-slice_known-22-1 → After-run_list-did
-run-list-of c = c.before.before.before.before.before.before.before.before.before.before.before.before.before.before.before.before.before.before.before.before.before.before.before.before.before.before.before.before
-
-abbrev else-of : After-run_list-did → Else-not-ok
-else-of c = c.before.before.before.before.before.before.before.before.before.before.before.before.before
-
-sound : (c : Else-not-ok) → passes_test (of (start_of (count_of c))) ≡ true
-sound c = sym (start_of (count_of c)).requires ∙ c.if-not-ok.false
-
-long : (c : Else-not-ok) → let a = (start_of (count_of c)).args in (25 ≤ length a.machine.now) × (4 ≤ length a.fuel.now)
-long c = let start = start_of (count_of c) in long-numbers start.args.machine.now start.args.fuel.now (numbers (of start) (sound c))
-
-room : (c : Else-answers-n) → c.count-n.result * 8 ≤ length (start_of c.before).args.answers.now
+room : (c : Else-answers-n) → c.count-n.result * 8 ≤ length c.args.answers.now
 room c =
-    let xs = (start_of c.before).args.answers.now in
+    let xs = c.args.answers.now in
     let h = c.if-answers-n.false in
     enough (length xs) c.count-n.result (let z : c.count-n.result ≤ length xs / 8 = omega arith in z)
 
@@ -70,12 +52,12 @@ abbrev left_by : After-run_list-did → Lent
 left_by c = nine c.run_list-did.new.stack c.run_list-did.new.frames c.run_list-did.new.chain c.run_list-did.new.slots
     c.run_list-did.new.saved_stack c.run_list-did.new.saved_frames c.run_list-did.new.ready
     c.run_list-did.new.finalize
-    (start_of (count_of (else-of c))).args.setup.now plain
+    c.args.setup.now plain
 
 pub returns-then-answers-n : goal.returns-then-answers-n
 returns-then-answers-n c =
-    let start = start_of c.before.before.before in let a = start.args in
-    run_short (of start) a.calls.now a.answers.now c.count-n.result c.count-n.ensures c.if-answers-n.true a.ok start.requires c.short.result c.short.ensures
+    let a = c.args in
+    run_short (of c.before.before.before.before.before.before.before.before.before.before.before.before.before.before.before.before.before) a.calls.now a.answers.now c.count-n.result c.count-n.ensures c.if-answers-n.true a.ok c.requires c.short.result c.short.ensures
 
 pub refuse_list-requires : goal.refuse_list-requires
 refuse_list-requires c = room c.before.before.before
@@ -85,8 +67,8 @@ shape_of-answers-then-not-ok c = c.refuse_list.auto.answers
 
 pub returns-then-not-ok : goal.returns-then-not-ok
 returns-then-not-ok c =
-    let start = start_of c.before.before.before.before.before.before.before in let a = start.args in
-    run-refused (of start) a.calls.now a.answers.now c.count-n.result c.count-n.ensures (room c.before.before.before.before.before.before) a.ok start.requires
+    let a = c.args in
+    run-refused (of c.before.before.before.before.before.before.before.before.before.before.before.before.before.before.before.before.before.before.before.before.before) a.calls.now a.answers.now c.count-n.result c.count-n.ensures (room c.before.before.before.before.before.before) a.ok c.requires
     c.if-not-ok.true _ c.refuse_list.ensures
 
 pub machine_of-m-requires : goal.machine_of-m-requires
@@ -100,44 +82,43 @@ fuel_of-f-requires c = (long c.before.before.before).1
 
 pub run_list-did-requires : goal.run_list-did-requires
 run_list-did-requires c =
-    let at_count = count_of c.before.before.before.before.before.before.before.before.before.before.before.before.before in let start = start_of at_count in
     record {
       fits =
-          may_read (of start) (sound c.before.before.before.before.before.before.before.before.before.before.before.before.before) c.machine_of-m.result c.fuel_of-f.result c.sizes_of-sizes.result c.machine_of-m.ensures c.fuel_of-f.ensures
+          may_read (of c.before.before.before.before.before.before.before.before.before.before.before.before.before.before.before.before.before.before.before.before.before.before.before.before.before.before.before.before.before) (sound c.before.before.before.before.before.before.before.before.before.before.before.before.before) c.machine_of-m.result c.fuel_of-f.result c.sizes_of-sizes.result c.machine_of-m.ensures c.fuel_of-f.ensures
           c.sizes_of-sizes.ensures;
-      calls = at_count.count.ensures;
+      calls = c.count-n.ensures;
       room = room c.before.before.before.before.before.before.before.before.before.before.before.before.before.before;
     }
 
 pub put_machine-requires : goal.put_machine-requires
-put_machine-requires c = (long (else-of c.before.before.before.before.before.before.before.before.before.before.before.before.before.before.before.before.before.before.before.before.before.before)).0
+put_machine-requires c = (long c.before.before.before.before.before.before.before.before.before.before.before.before.before.before.before.before.before.before.before.before.before.before.before.before.before.before.before.before.before.before.before.before.before.before.before).0
 
 pub put_fuel-requires : goal.put_fuel-requires
-put_fuel-requires c = (long (else-of c.before.before.before.before.before.before.before.before.before.before.before.before.before.before.before.before.before.before.before.before.before.before.before.before.before.before)).1
+put_fuel-requires c = (long c.before.before.before.before.before.before.before.before.before.before.before.before.before.before.before.before.before.before.before.before.before.before.before.before.before.before.before.before.before.before.before.before.before.before.before.before.before.before.before).1
 
 pub shape_of-stack : goal.shape_of-stack
-shape_of-stack c = (run-list-of c.before).run-list.auto.0
+shape_of-stack c = c.run_list-did.auto.stack
 
 pub shape_of-frames : goal.shape_of-frames
-shape_of-frames c = (run-list-of c.before).run-list.auto.1.0
+shape_of-frames c = c.run_list-did.auto.frames
 
 pub shape_of-chain : goal.shape_of-chain
-shape_of-chain c = (run-list-of c.before).run-list.auto.1.1.0
+shape_of-chain c = c.run_list-did.auto.chain
 
 pub shape_of-slots : goal.shape_of-slots
-shape_of-slots c = (run-list-of c.before).run-list.auto.1.1.1.0
+shape_of-slots c = c.run_list-did.auto.slots
 
 pub shape_of-saved_stack : goal.shape_of-saved_stack
-shape_of-saved_stack c = (run-list-of c.before).run-list.auto.1.1.1.1.0
+shape_of-saved_stack c = c.run_list-did.auto.saved_stack
 
 pub shape_of-saved_frames : goal.shape_of-saved_frames
-shape_of-saved_frames c = (run-list-of c.before).run-list.auto.1.1.1.1.1.0
+shape_of-saved_frames c = c.run_list-did.auto.saved_frames
 
 pub shape_of-ready : goal.shape_of-ready
-shape_of-ready c = (run-list-of c.before).run-list.auto.1.1.1.1.1.1.0
+shape_of-ready c = c.run_list-did.auto.ready
 
 pub shape_of-finalize : goal.shape_of-finalize
-shape_of-finalize c = (run-list-of c.before).run-list.auto.1.1.1.1.1.1.1.0
+shape_of-finalize c = c.run_list-did.auto.finalize
 
 pub shape_of-machine : goal.shape_of-machine
 shape_of-machine c = c.put_machine.auto.ws
@@ -146,13 +127,12 @@ pub shape_of-fuel : goal.shape_of-fuel
 shape_of-fuel c = c.put_fuel.auto.ws
 
 pub shape_of-answers : goal.shape_of-answers
-shape_of-answers c = (run-list-of c.before).run-list.auto.1.1.1.1.1.1.1.1.1.1.1.1.1.0
+shape_of-answers c = c.run_list-did.auto.answers
 
 pub returns : goal.returns
 returns c =
-    let did = run-list-of c.before in let at_fuel = did.before.before.before.before.before.before.before.before.before.before in let at-machine = at_fuel.before.before.before.before in
-    let at-if = else-of did in let at_count = count_of at-if in let start = start_of at_count in let a = start.args in let r = did.run-list.result in
-    let m = at-machine.machine-of.ensures in let f = at_fuel.fuel-of.ensures in
-    run-done (of start) a.calls.now a.answers.now at_count.count.result at_count.count.ensures (room at-if.before) a.ok start.requires
-    (not-false _ at-if.if2.left) (state (mem start) at-machine.machine-of.result at_fuel.fuel-of.result) (state (left_by did) r.machine r.fuel) (λ i. state (mem start) (m i) (f i)) _ _ _
-    did.run-list.ensures c.put_machine.ensures c.put_fuel.ensures
+    let a = c.args in let r = c.run_list-did.result in
+    let m = c.machine_of-m.ensures in let f = c.fuel_of-f.ensures in
+    run-done (of c.before.before.before.before.before.before.before.before.before.before.before.before.before.before.before.before.before.before.before.before.before.before.before.before.before.before.before.before.before.before.before.before.before.before.before.before.before.before.before.before.before.before.before.before.before.before.before.before.before.before.before.before.before.before.before.before.before.before) a.calls.now a.answers.now c.count-n.result c.count-n.ensures (room c.before.before.before.before.before.before.before.before.before.before.before.before.before.before.before.before.before.before.before.before.before.before.before.before.before.before.before.before.before.before.before.before.before.before.before.before.before.before.before.before.before.before.before) a.ok c.requires
+    c.if-not-ok.false (state (mem c.before.before.before.before.before.before.before.before.before.before.before.before.before.before.before.before.before.before.before.before.before.before.before.before.before.before.before.before.before.before.before.before.before.before.before.before.before.before.before.before.before.before.before.before.before.before.before.before.before.before.before.before.before.before.before.before.before.before) c.machine_of-m.result c.fuel_of-f.result) (state (left_by c.before.before.before.before.before.before.before.before.before.before.before.before.before.before.before.before.before.before.before.before.before.before.before.before.before.before.before.before.before) r.machine r.fuel) (λ i. state (mem c.before.before.before.before.before.before.before.before.before.before.before.before.before.before.before.before.before.before.before.before.before.before.before.before.before.before.before.before.before.before.before.before.before.before.before.before.before.before.before.before.before.before.before.before.before.before.before.before.before.before.before.before.before.before.before.before.before.before) (m i) (f i)) _ _ _
+    c.run_list-did.ensures c.put_machine.ensures c.put_fuel.ensures

@@ -16,9 +16,6 @@ use Rattle.linked_calls.proofs.look.bvm_look.Goals as goal
 abbrev Start : Type 0
 Start = lts.Start tie.the-claims reads.Pre reads.Post
 
-abbrev After-tested-ok : Type 0
-After-tested-ok = lts.After-tested tie.the-claims reads.Pre reads.Post
-
 -- `bvm_look` meets its contract: by the test and by room for the two places. Assumes nothing.
 abbrev mem : Start → Lent
 mem c = nine c.args.stack.now c.args.frames.now c.args.chain.now c.args.slots.now c.args.saved_stack.now c.args.saved_frames.now c.args.ready.now c.args.finalize.now c.args.setup.now plain
@@ -26,13 +23,8 @@ mem c = nine c.args.stack.now c.args.frames.now c.args.chain.now c.args.slots.no
 abbrev of : Start → Host
 of c = host (mem c) c.args.machine.now c.args.fuel.now
 
-abbrev start_of : After-tested-ok → Start
-start_of c = c.before.before.before.before.before.before.before.before.before.before.before.before.before
-
 pub returns-then-span-lt-SPAN_WIDTH : goal.returns-then-span-lt-SPAN_WIDTH
-returns-then-span-lt-SPAN_WIDTH c =
-    let start = start_of c.before.before.before in
-    look-short (of start) start.args.span.now c.if-span-lt-SPAN_WIDTH.true c.tested-ok.result c.tested-ok.ensures c.short.result c.short.ensures
+returns-then-span-lt-SPAN_WIDTH c = look-short (of c.before.before.before.before.before.before.before.before.before.before.before.before.before.before.before.before) c.args.span.now c.if-span-lt-SPAN_WIDTH.true c.tested-ok.result c.tested-ok.ensures c.short.result c.short.ensures
 
 pub bounds-span-0 : goal.bounds-span-0
 bounds-span-0 c = let h = c.if-span-lt-SPAN_WIDTH.false in omega arith
@@ -41,9 +33,7 @@ pub bounds-span-1 : goal.bounds-span-1
 bounds-span-1 c = let h = c.if-span-lt-SPAN_WIDTH.false in simp length-set (omega arith)
 
 pub returns-then-not-ok : goal.returns-then-not-ok
-returns-then-not-ok c =
-    let start = start_of c.before.before.before in
-    not-looked (of start) start.args.span.now c.if-span-lt-SPAN_WIDTH.false c.tested-ok.result c.tested-ok.ensures c.if-not-ok.true
+returns-then-not-ok c = not-looked (of c.before.before.before.before.before.before.before.before.before.before.before.before.before.before.before.before) c.args.span.now c.if-span-lt-SPAN_WIDTH.false c.tested-ok.result c.tested-ok.ensures c.if-not-ok.true
 
 pub span_in-s-requires : goal.span_in-s-requires
 span_in-s-requires c = sym c.tested-ok.ensures ∙ c.if-not-ok.false
@@ -55,6 +45,4 @@ pub bounds-span-1-2 : goal.bounds-span-1-2
 bounds-span-1-2 c = let h = c.if-span-lt-SPAN_WIDTH.false in simp length-set (omega arith)
 
 pub returns : goal.returns
-returns c =
-    let start = start_of c.before.before.before.before in
-    looked-at (of start) start.args.span.now c.if-span-lt-SPAN_WIDTH.false c.tested-ok.result c.tested-ok.ensures c.if-not-ok.false c.span_in-s.result c.span_in-s.ensures
+returns c = looked-at (of c.before.before.before.before.before.before.before.before.before.before.before.before.before.before.before.before.before) c.args.span.now c.if-span-lt-SPAN_WIDTH.false c.tested-ok.result c.tested-ok.ensures c.if-not-ok.false c.span_in-s.result c.span_in-s.ensures

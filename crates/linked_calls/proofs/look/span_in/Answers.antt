@@ -15,9 +15,6 @@ use Rattle.linked_calls.proofs.look.span_in.Goals as goal
 abbrev Start : Type 0
 Start = lts.Start tie.the-claims reads.Pre reads.Post
 
-abbrev After-machine_of-m : Type 0
-After-machine_of-m = lts.After-machine_of tie.the-claims reads.Pre reads.Post
-
 abbrev After-seen-part : Type 0
 After-seen-part = lts.After-seen tie.the-claims reads.Pre reads.Post
 
@@ -28,28 +25,22 @@ mem c = nine c.args.stack.now c.args.frames.now c.args.chain.now c.args.slots.no
 abbrev of : Start → Host
 of c = host (mem c) c.args.machine.now c.args.fuel.now
 
-abbrev start_of : After-machine_of-m → Start
-start_of c = c.before.before.before.before.before.before.before.before.before.before.before.before
-
 wide : (c : Start) → (25 ≤ length c.args.machine.now) × (4 ≤ length c.args.fuel.now)
 wide c = long-numbers c.args.machine.now c.args.fuel.now (numbers (of c) c.requires)
 
 told : (c : After-seen-part) → let m = c.machine_of-m.result in let xs = c.seen-part.result.now in
-    (length xs ≤ m.height) × Spans (of (start_of c.before.before)) (record { start = m.height - length xs; end = m.height })
+    (length xs ≤ m.height) × Spans (of c.before.before.before.before.before.before.before.before.before.before.before.before.before.before) (record { start = m.height - length xs; end = m.height })
 told c =
-    let start = start_of c.before.before in
-    spans (of start) start.requires c.machine_of-m.result c.fuel_of-f.result c.machine_of-m.ensures c.fuel_of-f.ensures c.seen-part.result.now c.seen-part.ensures
+    spans (of c.before.before.before.before.before.before.before.before.before.before.before.before.before.before) c.requires c.machine_of-m.result c.fuel_of-f.result c.machine_of-m.ensures c.fuel_of-f.ensures c.seen-part.result.now c.seen-part.ensures
 
 pub machine_of-m-requires : goal.machine_of-m-requires
 machine_of-m-requires c = (wide c.before.before.before.before.before.before.before.before.before.before.before.before).0
 
 pub fuel_of-f-requires : goal.fuel_of-f-requires
-fuel_of-f-requires c = (wide (start_of c.before)).1
+fuel_of-f-requires c = (wide c.before.before.before.before.before.before.before.before.before.before.before.before.before).1
 
 pub seen-part-requires : goal.seen-part-requires
-seen-part-requires c =
-    let start = start_of c.before.before in
-    may-see (of start) start.requires c.machine_of-m.result c.fuel_of-f.result c.machine_of-m.ensures c.fuel_of-f.ensures
+seen-part-requires c = may-see (of c.before.before.before.before.before.before.before.before.before.before.before.before.before.before) c.requires c.machine_of-m.result c.fuel_of-f.result c.machine_of-m.ensures c.fuel_of-f.ensures
 
 pub overflow_sub-result : goal.overflow_sub-result
 overflow_sub-result c = (told c.before.before).0

@@ -16,9 +16,6 @@ use Rattle.linked_calls.proofs.tested.tested.Goals as goal
 abbrev Start : Type 0
 Start = lts.Start tie.the-claims reads.Pre reads.Post
 
-abbrev After-numbers_ok : Type 0
-After-numbers_ok = lts.After-numbers_ok tie.the-claims reads.Pre reads.Post
-
 abbrev Else-not-numbers_ok : Type 0
 Else-not-numbers_ok = lts.Else1 tie.the-claims reads.Pre reads.Post
 
@@ -29,40 +26,36 @@ mem c = nine c.args.stack.now c.args.frames.now c.args.chain.now c.args.slots.no
 abbrev of : Start → Host
 of c = host (mem c) c.args.machine.now c.args.fuel.now
 
-abbrev start_of : After-numbers_ok → Start
-start_of c = c.before.before.before.before.before.before.before.before.before.before.before.before
-
-passed : (c : Else-not-numbers_ok) → let start = start_of c.before in numbers_ok start.args.machine.now start.args.fuel.now ≡ true
+passed : (c : Else-not-numbers_ok) → numbers_ok c.args.machine.now c.args.fuel.now ≡ true
 passed c = sym c.numbers_ok.ensures ∙ c.if-not-numbers_ok.false
 
 pub returns-then-not-numbers_ok : goal.returns-then-not-numbers_ok
-returns-then-not-numbers_ok c = fails-numbers (of (start_of c.before.before)) (sym c.numbers_ok.ensures ∙ c.if-not-numbers_ok.true)
+returns-then-not-numbers_ok c = fails-numbers (of c.before.before.before.before.before.before.before.before.before.before.before.before.before.before) (sym c.numbers_ok.ensures ∙ c.if-not-numbers_ok.true)
 
 pub machine_of-m-requires : goal.machine_of-m-requires
-machine_of-m-requires c = let a = (start_of c.before.before).args in (long-numbers a.machine.now a.fuel.now (passed c.before)).0
+machine_of-m-requires c = let a = c.args in (long-numbers a.machine.now a.fuel.now (passed c.before)).0
 
 pub fuel_of-f-requires : goal.fuel_of-f-requires
-fuel_of-f-requires c = let a = (start_of c.before.before.before).args in (long-numbers a.machine.now a.fuel.now (passed c.before.before)).1
+fuel_of-f-requires c = let a = c.args in (long-numbers a.machine.now a.fuel.now (passed c.before.before)).1
 
 pub returns-then-not-sound_words : goal.returns-then-not-sound_words
 returns-then-not-sound_words c =
-    let h = of (start_of c.before.before.before.before.before.before) in
+    let h = of c.before.before.before.before.before.before.before.before.before.before.before.before.before.before.before.before.before.before in
     fails-sound h (passed c.before.before.before.before.before)
     (sym (read-sound h c.sound_words.result c.machine_of-m.result c.fuel_of-f.result c.machine_of-m.ensures c.fuel_of-f.ensures c.sound_words.ensures)
     ∙ c.if-not-sound_words.true)
 
 pub sizes_held-requires : goal.sizes_held-requires
 sizes_held-requires c =
-    let start = start_of c.before.before.before.before.before.before in
-    let a = start.args in
+    let a = c.args in
     record {
       numbers = (long-numbers a.machine.now a.fuel.now (passed c.before.before.before.before.before)).0;
-      setup = setup-fits (mem start) c.machine_of-m.result c.fuel_of-f.result (sym c.sound_words.ensures ∙ c.if-not-sound_words.false);
+      setup = setup-fits (mem c.before.before.before.before.before.before.before.before.before.before.before.before.before.before.before.before.before.before) c.machine_of-m.result c.fuel_of-f.result (sym c.sound_words.ensures ∙ c.if-not-sound_words.false);
     }
 
 pub returns : goal.returns
 returns c =
-    let h = of (start_of c.before.before.before.before.before.before.before) in
+    let h = of c.before.before.before.before.before.before.before.before.before.before.before.before.before.before.before.before.before.before.before in
     c.sizes_held.ensures
     ∙ all_tested h (passed c.before.before.before.before.before.before)
     (sym (read-sound h c.sound_words.result c.machine_of-m.result c.fuel_of-f.result c.machine_of-m.ensures c.fuel_of-f.ensures c.sound_words.ensures)

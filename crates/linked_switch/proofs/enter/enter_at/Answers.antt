@@ -1,14 +1,8 @@
 -- `enter_at` meets the model: an entry that nothing refuses. Assumes nothing.
-use mathlib.Core.Path.{refl}
 use native.Mathlib.Omega.{arith}
-use Rattle.heap.specs.declared.fault.Fault.{Fault}
-use Rattle.model.specs.declared.machine.Driver.{Driver}
 use Rattle.memory_world.specs.Memory.{Lent, Beside}
 use Rattle.memory_world.specs.Lendings.{lent}
-use Rattle.linked_calls.specs.Words.{machine_in, sizes_in}
-use Rattle.coro_enter.proofs.Entry.{accepted}
-use Rattle.linked_switch.specs.Words.{record_at}
-use Rattle.linked_switch.proofs.Fits.{found, sum, fit}
+use Rattle.linked_switch.proofs.Fits.{sum, fit}
 use Rattle.linked_switch.proofs.enter.enter_at.Lts as lts
 use Rattle.linked_switch.proofs.enter.enter_at.Reads as reads
 use Rattle.linked_switch.proofs.enter.enter_at.Tie as tie
@@ -17,13 +11,6 @@ use Rattle.linked_switch.proofs.enter.enter_at.Goals as goal
 abbrev Start : Type 0
 Start = lts.Start tie.the-claims reads.Pre reads.Post
 
-abbrev After-move_in : Type 0
-After-move_in = lts.After-move_in tie.the-claims reads.Pre reads.Post
-
--- `enter_at` meets the model: an entry that nothing refuses. Assumes nothing.
-abbrev start_of : After-move_in → Start
-start_of c = c.before.before.before.before.before.before.before.before.before.before.before.before
-
 abbrev mem : Start → Beside → Lent
 mem c = let a = c.args in lent a.stack.now a.frames.now a.chain.now a.slots.now a.saved_stack.now a.saved_frames.now
 
@@ -31,14 +18,7 @@ pub move_in-requires : goal.move_in-requires
 move_in-requires c = record { words = c.requires.words; slot = (sum c.requires).slot; fits = fit c.requires (omega (arith, c.well_formed)) }
 
 pub push_active-requires : goal.push_active-requires
-push_active-requires c = (sum (start_of c.before.before.before.before.before.before.before.before.before.before.before.before).requires).chain
+push_active-requires c = (sum c.requires).chain
 
 pub put_entered-requires : goal.put_entered-requires
-put_entered-requires c = (sum (start_of c.before.before.before.before.before.before.before.before.before.before.before.before.before.before.before.before).requires).slot
-
-pub returns : goal.returns
-returns c =
-    let start = start_of c.before.before.before.before.before.before.before.before.before.before.before.before.before.before.before.before.before.before.before in let a = start.args in
-    λ w b rep snd. accepted (sizes_in a.machine.now) (mem start b) (machine_in a.machine.now) b.fuel a.v w rep a.i (record_at a.slots.now a.i) (found start.requires) snd Fault.None
-    start.requires.may.fits refl (Driver.Resume a.dst) _ _ _ _ _ _ _ _ c.move_in.ensures
-    c.push_active.ensures c.put_entered.ensures refl refl
+put_entered-requires c = (sum c.requires).slot

@@ -1,11 +1,8 @@
 -- `leave_at` meets its contract: a suspension that nothing refuses. Assumes nothing.
-use mathlib.Core.Path.{refl}
 use native.Mathlib.Omega.{arith}
 use Rattle.memory_world.specs.Memory.{Lent, Beside}
 use Rattle.memory_world.specs.Lendings.{lent}
-use Rattle.linked_calls.specs.Words.{machine_in, sizes_in}
 use Rattle.linked_switch.proofs.Fits.{slot_at, under, leave_fits}
-use Rattle.linked_switch.proofs.Leaving.{left}
 use Rattle.linked_switch.proofs.leave.leave_at.Lts as lts
 use Rattle.linked_switch.proofs.leave.leave_at.Reads as reads
 use Rattle.linked_switch.proofs.leave.leave_at.Tie as tie
@@ -13,13 +10,6 @@ use Rattle.linked_switch.proofs.leave.leave_at.Goals as goal
 
 abbrev Start : Type 0
 Start = lts.Start tie.the-claims reads.Pre reads.Post
-
-abbrev After-move_out : Type 0
-After-move_out = lts.After-move_out tie.the-claims reads.Pre reads.Post
-
--- `leave_at` meets its contract: a suspension that nothing refuses. Assumes nothing.
-abbrev start_of : After-move_out → Start
-start_of c = c.before.before.before.before.before.before.before.before.before.before.before.before.before
 
 abbrev mem : Start → Beside → Lent
 mem c = let a = c.args in lent a.stack.now a.frames.now a.chain.now a.slots.now a.saved_stack.now a.saved_frames.now
@@ -31,19 +21,12 @@ pub move_out-requires : goal.move_out-requires
 move_out-requires c = record { words = c.requires.words; fits = leave_fits c.requires _ c.row_at-row.ensures }
 
 pub overflow_sub-regs : goal.overflow_sub-regs
-overflow_sub-regs c = let u = under (start_of c.before.before.before.before.before.before.before.before.before.before.before.before.before.before.before).requires in omega (arith, u)
+overflow_sub-regs c = let u = under c.requires in omega (arith, u)
 
 pub overflow_sub-deep : goal.overflow_sub-deep
 overflow_sub-deep c =
-    let start = start_of c.before.before.before.before.before.before.before.before.before.before.before.before.before.before.before.before in let u = start.requires.may.floor in
-    let e = start.requires.at-floor in omega (arith, u, e)
+    let u = c.requires.may.floor in
+    let e = c.requires.at-floor in omega (arith, u, e)
 
 pub put_yielded-requires : goal.put_yielded-requires
-put_yielded-requires c = slot_at (start_of c.before.before.before.before.before.before.before.before.before.before.before.before.before.before.before.before.before).requires
-
-pub returns : goal.returns
-returns c =
-    let start = start_of c.before.before.before.before.before.before.before.before.before.before.before.before.before.before.before.before.before.before.before.before in let a = start.args in let ms = a.machine.now in
-    let s = c.move_out.new in λ w b rep snd. left (sizes_in ms) (mem start b) (machine_in ms) b.fuel w rep snd a.i start.requires.may a.dst a.payload a.key a.largest
-    s.0 s.1.0 c.pop_active.new.chain c.put_yielded.new.slots s.1.1.0 s.1.1.1.0 c.row_at-row.result a.floor a.base _ _
-    c.row_at-row.ensures start.requires.at-floor start.requires.at_base refl refl c.move_out.ensures c.pop_active.ensures c.put_yielded.ensures
+put_yielded-requires c = slot_at c.requires

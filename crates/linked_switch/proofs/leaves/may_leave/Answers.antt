@@ -14,23 +14,11 @@ use Rattle.linked_calls.specs.Words.{machine_in}
 use Rattle.linked_switch.specs.Words.{record_at}
 use Rattle.linked_switch.specs.Leave.{innermost_in}
 use Rattle.linked_switch.specs.Leaves.{by_resume, to_leave}
-use Rattle.linked_switch.proofs.Leavable.{no-frame, no_fuel, none_runs, no-dst, no_src, not-resume, no-resume, no_place, closing, too_wide, too-deep, no_key, no_word, at_slot}
+use Rattle.linked_switch.proofs.Leavable.{no-frame, no_fuel, none_runs, no-dst, no_src, not-resume, no-resume, closing, too_wide, too-deep}
 use Rattle.linked_switch.proofs.leaves.may_leave.Lts as lts
 use Rattle.linked_switch.proofs.leaves.may_leave.Reads as reads
 use Rattle.linked_switch.proofs.leaves.may_leave.Tie as tie
 use Rattle.linked_switch.proofs.leaves.may_leave.Goals as goal
-
-abbrev Start : Type 0
-Start = lts.Start tie.the-claims reads.Pre reads.Post
-
-abbrev Else-fuel-eq0 : Type 0
-Else-fuel-eq0 = lts.Else2 tie.the-claims reads.Pre reads.Post
-
-abbrev Else-machine-eq0-2 : Type 0
-Else-machine-eq0-2 = lts.Else3 tie.the-claims reads.Pre reads.Post
-
-abbrev Else-width-src : Type 0
-Else-width-src = lts.Else6 tie.the-claims reads.Pre reads.Post
 
 abbrev After-active_at-a : Type 0
 After-active_at-a = lts.After-active_at tie.the-claims reads.Pre reads.Post
@@ -44,71 +32,45 @@ In-At-2 = lts.After-i tie.the-claims reads.Pre reads.Post
 abbrev After-base_at-base : Type 0
 After-base_at-base = lts.After-base_at2 tie.the-claims reads.Pre reads.Post
 
-abbrev Else-maxframes_at-machine : Type 0
-Else-maxframes_at-machine = lts.Else9 tie.the-claims reads.Pre reads.Post
-
 abbrev After-next_key : Type 0
 After-next_key = lts.After-next_key tie.the-claims reads.Pre reads.Post
 
--- `may_leave` meets its contract: each test that fails is one of the definition's, and those that are passed tell their part. Assumes nothing.
-abbrev start_of : After-active_at-a → Start
-start_of c = c.before.before.before.before.before.before.before.before.before.before.before.before.before.before.before.before.before.before
-
-abbrev if6-of : After-active_at-a → Else-width-src
-if6-of c = c.before.before
-
-abbrev if3-of : Else-width-src → Else-machine-eq0-2
-if3-of c = c.before.before.before.before.before.before.before
-
-abbrev if2-of : Else-machine-eq0-2 → Else-fuel-eq0
-if2-of c = c.before.before
-
-abbrev active-of : In-At-2 → After-active_at-a
-active-of c = c.before.before.before.before.before.before.before
-
-abbrev base-of : Else-maxframes_at-machine → After-base_at-base
-base-of c = c.before.before.before.before.before.before.before
-
 -- what the innermost coroutine's word names
-named : (c : After-coro_place) → let a = (start_of c.before.before.before.before.before).args in c.coro_place.result ≡ to_leave a.chain.now a.slots.now a.machine.now
+named : (c : After-coro_place) → let a = c.args in c.coro_place.result ≡ to_leave a.chain.now a.slots.now a.machine.now
 named c =
-    let a = (start_of c.before.before.before.before.before).args in
+    let a = c.args in
     c.coro_place.ensures ∙ ap (λ (x : Active). place_of (coro_of (slots_of (machine_in a.machine.now).count a.slots.now) x.coro)) c.active_at-a.ensures
 
-found : (c : In-At-2) → let a = (start_of (active-of c)).args in L.At c.in-At.i ≡ to_leave a.chain.now a.slots.now a.machine.now
+found : (c : In-At-2) → let a = c.args in L.At c.in-At.i ≡ to_leave a.chain.now a.slots.now a.machine.now
 found c = sym c.in-At.is ∙ named c.before.before
 
 -- its slot lies in the slice
-slot : (c : In-At-2) → SlotFits (start_of (active-of c)).args.slots.now c.in-At.i
+slot : (c : In-At-2) → SlotFits c.args.slots.now c.in-At.i
 slot c =
-    let start = start_of (active-of c) in let a = start.args in
-    stands-words (machine_in a.machine.now).count a.slots.now (innermost_in a.chain.now (machine_in a.machine.now)).coro c.in-At.i (found c) start.requires.in-slots
+    let a = c.args in
+    stands-words (machine_in a.machine.now).count a.slots.now (innermost_in a.chain.now (machine_in a.machine.now)).coro c.in-At.i (found c) c.requires.in-slots
 
-runs : (c : After-active_at-a) → 1 ≤ (machine_in (start_of c).args.machine.now).active
+runs : (c : After-active_at-a) → 1 ≤ (machine_in c.args.machine.now).active
 runs c = some-active _ c.if-machine-eq0-2.false
 
 -- its floor is a frame's
-floored : (c : After-active_at-a) → c.active_at-a.result.floor < (machine_in (start_of c).args.machine.now).depth
+floored : (c : After-active_at-a) → c.active_at-a.result.floor < (machine_in c.args.machine.now).depth
 floored c =
-    let e = ap (λ (x : Active). x.floor) c.active_at-a.ensures in let h = (start_of c).requires.floor (runs c) in
+    let e = ap (λ (x : Active). x.floor) c.active_at-a.ensures in let h = c.requires.floor (runs c) in
     omega (arith, h, e)
 
 -- where its body begins
 based : (c : After-base_at-base) →
-    let a = (start_of c.before.before.before.before.before.before.before.before.before.before.before).args in
+    let a = c.args in
     c.base_at-base.result ≡ base_in a.frames.now (innermost_in a.chain.now (machine_in a.machine.now)).floor
 based c =
-    c.base_at-base.ensures ∙ ap (λ (x : Active). base_in (start_of c.before.before.before.before.before.before.before.before.before.before.before).args.frames.now x.floor) c.active_at-a.ensures
+    c.base_at-base.ensures ∙ ap (λ (x : Active). base_in c.args.frames.now x.floor) c.active_at-a.ensures
 
--- its next key
-abbrev i-of : After-next_key → In-At-2
-i-of c = c.before.before.before.before.before.before.before.before.before.before.before.before.before
-
-next-key : (c : After-next_key) → let at_i = i-of c in c.next_key.result ≡ next_key (record_at (start_of (active-of at_i)).args.slots.now at_i.i.given.0.0).largest
+next-key : (c : After-next_key) → c.next_key.result ≡ next_key (record_at c.args.slots.now c.in-At.i).largest
 next-key c = c.next_key.ensures ∙ ap next_key c.largest_at.ensures
 
 -- a Resume waits for it
-by-resume : (c : In-At-2) → (active-of c).active-at.result.driver ≡ Driver.Resume c.in-Resume.to
+by-resume : (c : In-At-2) → c.active_at-a.result.driver ≡ Driver.Resume c.in-Resume.to
 by-resume c = c.in-Resume.is
 
 pub returns-then-machine-eq0 : goal.returns-then-machine-eq0
@@ -129,90 +91,51 @@ returns-then-width-dst c = no-dst (omega arith)
 pub returns-then-width-src : goal.returns-then-width-src
 returns-then-width-src c = no_src (omega arith)
 
-pub returns-in_default : goal.returns-in_default
-returns-in_default c = no-resume (ap (λ (x : Active). by_resume x.driver) (sym c.active_at-a.ensures) ∙ not-resume c.active_at-a.result.driver c.in_default.in_default-own.keys2)
-
 pub bounds-machine-3 : goal.bounds-machine-3
-bounds-machine-3 c = let h = (start_of c.before.before.before.before.before).requires.words in omega (arith, h)
+bounds-machine-3 c = no-resume (ap (λ (x : Active). by_resume x.driver) (sym c.active_at-a.ensures) ∙ not-resume c.active_at-a.result.driver c.in-Resume.in-Resume-own.keys2)
 
 pub coro_place-requires : goal.coro_place-requires
-coro_place-requires c = (start_of c.before.before.before.before.before).requires.in-slots
+coro_place-requires c = let h = c.requires.words in omega (arith, h)
 
 pub closing_at-requires : goal.closing_at-requires
-closing_at-requires c = slot c.before.before
-
-pub returns-then-closing_at : goal.returns-then-closing_at
-returns-then-closing_at c = closing (found c.before.before.before.before) (sym c.closing_at.ensures ∙ c.if-closing_at.true)
-
-pub base_at-base-requires : goal.base_at-base-requires
-base_at-base-requires c = let f = floored c.before.before.before.before.before.before.before.before.before.before.before in let h = (start_of c.before.before.before.before.before.before.before.before.before.before.before).requires.on-frames in omega (arith, f, h)
+closing_at-requires c = c.requires.in-slots
 
 pub maxregs_at-requires : goal.maxregs_at-requires
-maxregs_at-requires c = slot c.before.before.before.before.before
+maxregs_at-requires c = slot c.before
 
 pub bounds-machine-0-in-At : goal.bounds-machine-0-in-At
-bounds-machine-0-in-At c = let h = (start_of c.before.before.before.before.before.before.before.before.before.before.before.before.before.before).requires.words in omega (arith, h)
+bounds-machine-0-in-At c = closing (found c.before.before.before) (sym c.closing_at.ensures ∙ c.if-closing_at.true)
 
 pub overflow_sub-machine-in-At : goal.overflow_sub-machine-in-At
-overflow_sub-machine-in-At c =
-    let e = based c.before.before.before in
-    let h = (start_of c.before.before.before.before.before.before.before.before.before.before.before.before.before.before).requires.base (runs c.before.before.before.before.before.before.before.before.before.before.before.before.before.before) in omega (arith, h, e)
+overflow_sub-machine-in-At c = let f = floored c.before.before.before.before.before.before.before.before.before.before in let h = c.requires.on-frames in omega (arith, f, h)
 
 pub returns-then-maxregs_at-machine : goal.returns-then-maxregs_at-machine
-returns-then-maxregs_at-machine c = let e = based c.before.before.before.before in let n = c.maxregs_at.ensures in too_wide (found c.before.before.before.before.before.before.before.before) (omega (arith, e, n, c.if-maxregs_at-machine.true))
+returns-then-maxregs_at-machine c = slot c.before.before.before.before
 
 pub maxframes_at-requires : goal.maxframes_at-requires
-maxframes_at-requires c = slot c.before.before.before.before.before.before.before.before
+maxframes_at-requires c = let h = c.requires.words in omega (arith, h)
 
 pub bounds-machine-1-in-At : goal.bounds-machine-1-in-At
-bounds-machine-1-in-At c = let h = (start_of c.before.before.before.before.before.before.before.before.before.before.before.before.before.before.before.before.before).requires.words in omega (arith, h)
+bounds-machine-1-in-At c =
+    let e = based c.before.before.before.before.before.before in
+    let h = c.requires.base (runs c.before.before.before.before.before.before.before.before.before.before.before.before.before) in omega (arith, h, e)
 
 pub overflow_sub-machine-in-At-2 : goal.overflow_sub-machine-in-At-2
-overflow_sub-machine-in-At-2 c = let f = floored c.before.before.before.before.before.before.before.before.before.before.before.before.before.before.before.before.before.before in omega (arith, f)
+overflow_sub-machine-in-At-2 c = let e = based c.before.before.before.before.before.before.before in let n = c.maxregs_at.ensures in too_wide (found c.before.before.before.before.before.before.before) (omega (arith, e, n, c.if-maxregs_at-machine.true))
 
 pub returns-then-maxframes_at-machine : goal.returns-then-maxframes_at-machine
-returns-then-maxframes_at-machine c =
-    let f = ap (λ (x : Active). x.floor) (active-of c.before.before.before.before.before.before.before.before.before.before.before.before).active-at.ensures in let n = c.maxframes_at.ensures in
-    too-deep (found c.before.before.before.before.before.before.before.before.before.before.before.before) (omega (arith, f, n, c.if-maxframes_at-machine.true))
+returns-then-maxframes_at-machine c = slot c.before.before.before.before.before.before.before
 
 pub largest_at-requires : goal.largest_at-requires
-largest_at-requires c = slot c.before.before.before.before.before.before.before.before.before.before.before.before
+largest_at-requires c = let h = c.requires.words in omega (arith, h)
+
+pub next_key-requires : goal.next_key-requires
+next_key-requires c = let f = floored c.before.before.before.before.before.before.before.before.before.before.before.before.before.before.before.before in omega (arith, f)
+
+pub inline_int-requires : goal.inline_int-requires
+inline_int-requires c =
+    let f = ap (λ (x : Active). x.floor) c.active_at-a.ensures in let n = c.maxframes_at.ensures in
+    too-deep (found c.before.before.before.before.before.before.before.before.before.before.before) (omega (arith, f, n, c.if-maxframes_at-machine.true))
 
 pub returns-in-Not : goal.returns-in-Not
-returns-in-Not c = no_place (sym c.in-Not.is ∙ named c.before.before.before)
-
-pub returns-in-Over : goal.returns-in-Over
-returns-in-Over c = no_key (found (i-of c.before.before.before)) (sym c.in-Over.is ∙ next-key c.before.before.before)
-
-pub returns-in-Large : goal.returns-in-Large
-returns-in-Large c = no_word (found (i-of c.before.before.before.before.before.before.before)) (sym c.in-Fits.is ∙ next-key c.before.before.before.before.before.before.before) (sym c.in-Large.is ∙ c.inline_int.ensures)
-
-pub returns-in-At-inline_int : goal.returns-in-At-inline_int
-returns-in-At-inline_int c =
-    let at-active-at = active-of c.before.before.before.before.before.before.before.before.before.before.before.before.before.before.before.before.before.before.before.before.before in let is = at-active-at.active-at.ensures in
-    let at-if6 = if6-of at-active-at in let at-if3 = if3-of at-if6 in let at-if2 = if2-of at-if3 in
-    let start = start_of at-active-at in let low = at-if6.before.before.before.before.before.base-at.ensures in let above = at-if6.before.before.before.if4.left in
-    let run = runs at-active-at in let e = based (base-of c.before.before.before.before.before.before.before.before.before.before) in let f = ap (λ (x : Active). x.floor) is in
-    let wide = c.maxregs_at.ensures in let deep = c.maxframes_at.ensures in
-    at_slot (found c.before.before.before.before.before.before.before.before.before.before.before.before.before.before.before.before.before.before.before.before.before)
-    (record {
-      some = some-active _ at-if2.before.if1.left;
-      paid = some-active _ at-if2.if2.left;
-      dst-in = omega (arith, low, above, at-if6.before.if5.left);
-      src-in = omega (arith, low, above, at-if6.if6.left);
-      may =
-          record {
-            running = run;
-            floor = start.requires.floor run;
-            found = found c.before.before.before.before.before.before.before.before.before.before.before.before.before.before.before.before.before.before.before.before.before;
-            unclosed = sym c.closing_at.ensures ∙ c.if-closing_at.false;
-            wide = omega (arith, e, wide, c.if-maxregs_at-machine.false);
-            deep = omega (arith, f, deep, c.if-maxframes_at-machine.false);
-          };
-      keyed =
-          record {
-            next = sym c.in-Fits.is ∙ next-key c.before.before.before.before.before.before.before.before;
-            inline = sym c.in-At-inline_int.is ∙ c.inline_int.ensures;
-          };
-      driven = ap (λ (x : Active). x.driver) (sym is) ∙ by-resume c.before.before.before.before.before.before.before.before.before.before.before.before.before.before.before.before.before.before.before.before.before;
-    })
+returns-in-Not c = slot c.before.before.before.before.before.before.before.before.before.before.before

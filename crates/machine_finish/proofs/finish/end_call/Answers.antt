@@ -21,47 +21,39 @@ After-pop-n = lts.After-pop tie.the-claims reads.Pre reads.Post
 abbrev mem : Start → Beside → Lent
 mem s = top_table s.args.stack.now s.args.frames.now s.args.slots.now plain
 
--- where the frame is gone
-abbrev start_of : After-pop-n → Start
-start_of c = c.before.before.before.before.before.before
-
 abbrev left : After-pop-n → Beside → Lent
-left c = top_table c.pop-n.new.stack c.pop-n.new.frames (start_of c).args.slots.now plain
+left c = top_table c.pop-n.new.stack c.pop-n.new.frames c.args.slots.now plain
 
-popped : (c : After-pop-n) (w : World) (b : Beside) → let s = start_of c in
-    Rep s.args.sizes w (mem s b) s.args.m b.fuel → Rep s.args.sizes (pop_top w) (left c b) c.pop-n.result b.fuel
-popped c w b rep = let a = (start_of c).args in c.pop-n.ensures a.sizes w (record { words = on_slots a.slots.now b.words; fuel = b.fuel }) rep
+popped : (c : After-pop-n) (w : World) (b : Beside) → Rep c.args.sizes w (mem c.before.before.before.before.before.before b) c.args.m b.fuel → Rep c.args.sizes (pop_top w) (left c b) c.pop-n.result b.fuel
+popped c w b rep = let a = c.args in c.pop-n.ensures a.sizes w (record { words = on_slots a.slots.now b.words; fuel = b.fuel }) rep
 
 pub pop-n-requires : goal.pop-n-requires
 pop-n-requires c = may-pop c.args.sizes (mem c.before.before.before.before.before.before) c.args.m c.requires.on.ok c.requires.on.some
 
 pub apply_cont-did-requires : goal.apply_cont-did-requires
 apply_cont-did-requires c =
-    let start = start_of c.before.before.before.before.before.before in
-    let a = start.args in
-    let o = start.requires.on.ok in
+    let a = c.args in
+    let o = c.requires.on.ok in
     let k = c.pop-n.auto in
-    end-applies a.sizes (mem start) a.m a.cont start.requires (left c.before.before.before.before.before.before) c.pop-n.result (popped c.before.before.before.before.before.before o.world o.beside o.rep)
-    (record { stack = k.0; frames = k.1.0; chain = refl; slots = refl; saved_stack = refl; saved_frames = refl; ready = refl; finalize = refl; setup = refl })
+    end-applies a.sizes (mem c.before.before.before.before.before.before.before.before.before.before.before.before) a.m a.cont c.requires (left c.before.before.before.before.before.before) c.pop-n.result (popped c.before.before.before.before.before.before o.world o.beside o.rep)
+    (record { stack = k.stack; frames = k.frames; chain = refl; slots = refl; saved_stack = refl; saved_frames = refl; ready = refl; finalize = refl; setup = refl })
 
 pub resume_in-answer-requires : goal.resume_in-answer-requires
 resume_in-answer-requires c =
-    let start = start_of c.before.before.before.before.before.before.before.before.before.before.before.before.before.before in
-    let a = start.args in
-    let o = start.requires.on.ok in
+    let a = c.args in
+    let o = c.requires.on.ok in
     let f = c.apply_cont-did in
     let rep = popped c.before.before.before.before.before.before.before.before.before.before.before.before.before.before o.world o.beside o.rep in
-    end-steps a.sizes (mem start) a.m a.cont start.requires (left c.before.before.before.before.before.before.before.before.before.before.before.before.before.before) c.pop-n.result rep a.kind a.v
+    end-steps a.sizes (mem c.before.before.before.before.before.before.before.before.before.before.before.before.before.before.before.before.before.before.before.before) a.m a.cont c.requires (left c.before.before.before.before.before.before.before.before.before.before.before.before.before.before) c.pop-n.result rep a.kind a.v
     (top_table f.new.stack c.pop-n.new.frames f.new.slots plain o.beside) f.result.machine (f.ensures (pop_top o.world) o.beside rep).world
 
 pub returns : goal.returns
 returns c =
-    let start = start_of c.before.before.before.before.before.before.before.before.before.before.before.before.before.before.before.before.before in
-    let a = start.args in
+    let a = c.args in
     let f = c.apply_cont-did in
     let g = c.resume_in-answer in
     λ w b rep.
     let d = f.ensures (pop_top w) b (popped c.before.before.before.before.before.before.before.before.before.before.before.before.before.before.before.before.before w b rep) in
     call_ends a.sizes (top_table f.new.stack g.new.frames f.new.slots plain b) f.result.machine b.fuel w a.cont a.kind a.v
-    (on-top a.sizes (mem start b) a.m b.fuel w rep start.requires.on.some a.cont start.requires.on.top) start.requires.call f.result.answer g.result d.answer
+    (on-top a.sizes (mem c.before.before.before.before.before.before.before.before.before.before.before.before.before.before.before.before.before.before.before.before.before.before.before b) a.m b.fuel w rep c.requires.on.some a.cont c.requires.on.top) c.requires.call f.result.answer g.result d.answer
     (g.ensures a.sizes (apply_cont a.cont a.kind a.v (pop_top w)).world (record { words = on_stack f.new.stack (on_slots f.new.slots b.words); fuel = b.fuel }) d.world)

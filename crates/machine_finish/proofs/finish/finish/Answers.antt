@@ -36,18 +36,14 @@ under s b = record { words = on_chain s.args.chain.now (on_slots s.args.slots.no
 abbrev beyond : Start → Beside → Beside
 beyond s b = record { words = on_chain s.args.chain.now (on_saved s.args.saved_stack.now s.args.saved_frames.now b.words); fuel = b.fuel }
 
--- there is a top frame, and its continuation has been read
-abbrev start_of : After-frame_at-f → Start
-start_of c = c.before.before.before.before.before.before.before.before.before.before
-
-some : (c : After-frame_at-f) → 1 ≤ (start_of c).args.m.depth
+some : (c : After-frame_at-f) → 1 ≤ c.args.m.depth
 some c = omega (arith, c.if-m-eq0.false)
 
-read : (c : After-frame_at-f) → let a = (start_of c).args in (frame_in a.frames.now (a.m.depth - 1)).cont ≡ c.frame_at-f.result.cont
+read : (c : After-frame_at-f) → let a = c.args in (frame_in a.frames.now (a.m.depth - 1)).cont ≡ c.frame_at-f.result.cont
 read c = sym (ap (λ (x : Frame). x.cont) c.frame_at-f.ensures)
 
-top : (c : After-frame_at-f) (w : World) (b : Beside) → let s = start_of c in Rep s.args.sizes w (mem s b) s.args.m s.args.fuel → On w.frames c.frame_at-f.result.cont
-top c w b rep = let s = start_of c in on-top s.args.sizes (mem s b) s.args.m s.args.fuel w rep (some c) c.frame_at-f.result.cont (read c)
+top : (c : After-frame_at-f) (w : World) (b : Beside) → Rep c.args.sizes w (mem c.before.before.before.before.before.before.before.before.before.before b) c.args.m c.args.fuel → On w.frames c.frame_at-f.result.cont
+top c w b rep = on-top c.args.sizes (mem c.before.before.before.before.before.before.before.before.before.before b) c.args.m c.args.fuel w rep (some c) c.frame_at-f.result.cont (read c)
 
 pub returns-then-m-eq0 : goal.returns-then-m-eq0
 returns-then-m-eq0 c =
@@ -57,43 +53,37 @@ returns-then-m-eq0 c =
     (no-frame a.kind a.v w c.result_of.result (no_top w.frames a.frames.now a.m.depth rep.frames c.if-m-eq0.true) c.result_of.ensures) rep
 
 pub pop-n-requires : goal.pop-n-requires
-pop-n-requires c =
-    let start = start_of c.before.before.before.before.before.before in
-    may-pop start.args.sizes (mem start) start.args.m start.requires (some c.before.before.before.before.before.before)
+pop-n-requires c = may-pop c.args.sizes (mem c.before.before.before.before.before.before.before.before.before.before.before.before.before.before.before) c.args.m c.requires (some c.before.before.before.before.before)
 
 pub end_call-did-requires : goal.end_call-did-requires
 end_call-did-requires c =
-    let start = start_of c.before.before.before.before.before.before.before in
-    let o = start.requires in
+    let o = c.requires in
     record {
-      on = record { ok = record { world = o.world; beside = beyond start o.beside; rep = o.rep; sound = o.sound; room = o.room }; some = some c.before.before.before.before.before.before.before; top = read c.before.before.before.before.before.before.before };
+      on = record { ok = record { world = o.world; beside = beyond c.before.before.before.before.before.before.before.before.before.before.before.before.before.before.before.before o.beside; rep = o.rep; sound = o.sound; room = o.room }; some = some c.before.before.before.before.before.before; top = read c.before.before.before.before.before.before };
       call = sym c.way_of.ensures ∙ c.in-Caller.is;
     }
 
 pub finish_coro-requires : goal.finish_coro-requires
 finish_coro-requires c =
     record {
-      ok = (start_of c.before.before.before.before.before.before.before.before.before).requires;
-      some = some c.before.before.before.before.before.before.before.before.before;
-      top = read c.before.before.before.before.before.before.before.before.before ∙ driver-way c.frame_at-f.result.cont (sym c.way_of.ensures ∙ c.in-Driver.is);
+      ok = c.requires;
+      some = some c.before.before.before.before.before.before.before.before;
+      top = read c.before.before.before.before.before.before.before.before ∙ driver-way c.frame_at-f.result.cont (sym c.way_of.ensures ∙ c.in-Driver.is);
     }
 
 pub returns-in-Out : goal.returns-in-Out
 returns-in-Out c =
-    let start = start_of c.before.before.before.before.before.before.before.before.before.before.before.before in
-    let a = start.args in
+    let a = c.args in
     let p = c.pop-n in
     let o = c.result_of-result in
     λ w b rep snd.
-    does a.sizes (lent p.new.stack p.new.frames a.chain.now a.slots.now a.saved-stack.now a.saved-frames.now b) p.result a.fuel
+    does a.sizes (lent p.new.stack p.new.frames a.chain.now a.slots.now a.saved_stack.now a.saved_frames.now b) p.result a.fuel
     (finish a.kind a.v w) (pop_top w) (Answer.Exit o.result)
-    (finish-out a.kind a.v w c.frame_at-f.result.cont (top c.before.before.before.before.before.before.before.before.before.before.before.before w b rep) o.result (sym c.way_of.ensures ∙ c.in-Out.is) o.ensures)
-    (p.ensures a.sizes w (under start (record { words = b.words; fuel = a.fuel })) rep)
+    (finish-out a.kind a.v w c.frame_at-f.result.cont (top c.before.before.before.before.before.before.before.before.before.before.before w b rep) o.result (sym c.way_of.ensures ∙ c.in-Out.is) o.ensures)
+    (p.ensures a.sizes w (under c.before.before.before.before.before.before.before.before.before.before.before.before.before.before.before.before.before.before.before.before.before (record { words = b.words; fuel = a.fuel })) rep)
 
 pub returns-in-Caller : goal.returns-in-Caller
-returns-in-Caller c =
-    let start = start_of c.before.before.before.before.before.before.before.before.before.before.before.before.before.before.before in
-    λ w b rep snd. c.end_call-did.ensures w (beyond start (record { words = b.words; fuel = start.args.fuel })) rep
+returns-in-Caller c = λ w b rep snd. c.end_call-did.ensures w (beyond c.before.before.before.before.before.before.before.before.before.before.before.before.before.before.before.before.before.before.before.before.before.before.before.before (record { words = b.words; fuel = c.args.fuel })) rep
 
 pub returns-in-Driver : goal.returns-in-Driver
 returns-in-Driver c = c.finish_coro.ensures

@@ -19,9 +19,6 @@ use Rattle.machine_finish.proofs.finish.finish_coro.Goals as goal
 abbrev Start : Type 0
 Start = lts.Start tie.the-claims reads.Pre reads.Post
 
-abbrev After-to_dyn-did : Type 0
-After-to_dyn-did = lts.After-to_dyn tie.the-claims reads.Pre reads.Post
-
 -- `finish_coro` meets the definition of a body's frame: the result converts and goes to the driver, or the frame stays. Assumes nothing.
 -- the words, with other slots
 abbrev mem : Start → List ℕ → Beside → Lent
@@ -39,48 +36,44 @@ under s slots b = record { words = on_chain s.args.chain.now (on_slots slots (on
 top : (s : Start) (w : World) (b : Beside) → Rep s.args.sizes w (mem s s.args.slots.now b) s.args.m s.args.fuel → On w.frames Cont.Coro
 top s w b rep = on-top s.args.sizes (mem s s.args.slots.now b) s.args.m s.args.fuel w rep s.requires.some Cont.Coro s.requires.top
 
-abbrev start_of : After-to_dyn-did → Start
-start_of c = c.before.before.before.before.before.before.before.before
-
 pub to_dyn-did-requires : goal.to_dyn-did-requires
 to_dyn-did-requires c = let o = c.requires.ok in heap-room o.rep o.sound o.room
 
 pub pop-k-requires : goal.pop-k-requires
 pop-k-requires c =
-    let start = start_of c.before.before.before.before.before.before.before.before.before in let a = start.args in let o = start.requires.ok in let f = c.to_dyn-did in
-    body-pops a.sizes (mem start a.slots.now) a.m start.requires a.kind a.v (mem start f.new.slots o.beside) f.result.machine
-    (f.ensures o.world (around start o.beside) o.rep).world
+    let a = c.args in let o = c.requires.ok in let f = c.to_dyn-did in
+    body-pops a.sizes (mem c.before.before.before.before.before.before.before.before.before.before.before.before.before.before.before a.slots.now) a.m c.requires a.kind a.v (mem c.before.before.before.before.before.before.before.before.before.before.before.before.before.before.before f.new.slots o.beside) f.result.machine
+    (f.ensures o.world (around c.before.before.before.before.before.before.before.before.before.before.before.before.before.before.before o.beside) o.rep).world
 
 pub coro_returned-told-requires : goal.coro_returned-told-requires
 coro_returned-told-requires c =
-    let start = start_of c.before.before.before.before.before.before.before.before.before.before.before.before.before.before.before.before.before.before.before in let a = start.args in
-    let o = start.requires.ok in let f = c.to_dyn-did in let p = c.pop-k in
-    body-asks a.sizes (mem start a.slots.now) a.m start.requires a.kind a.v
-    (lent p.new.stack p.new.frames a.chain.now f.new.slots a.saved-stack.now a.saved-frames.now) p.result
-    (p.ensures a.sizes (to_dyn a.kind a.v o.world).world (under start f.new.slots o.beside) (f.ensures o.world (around start o.beside) o.rep).world)
+    let a = c.args in
+    let o = c.requires.ok in let f = c.to_dyn-did in let p = c.pop-k in
+    body-asks a.sizes (mem c.before.before.before.before.before.before.before.before.before.before.before.before.before.before.before.before.before.before.before.before.before.before.before.before.before a.slots.now) a.m c.requires a.kind a.v
+    (lent p.new.stack p.new.frames a.chain.now f.new.slots a.saved_stack.now a.saved_frames.now) p.result
+    (p.ensures a.sizes (to_dyn a.kind a.v o.world).world (under c.before.before.before.before.before.before.before.before.before.before.before.before.before.before.before.before.before.before.before.before.before.before.before.before.before f.new.slots o.beside) (f.ensures o.world (around c.before.before.before.before.before.before.before.before.before.before.before.before.before.before.before.before.before.before.before.before.before.before.before.before.before o.beside) o.rep).world)
 
 pub returns-in-Refused : goal.returns-in-Refused
 returns-in-Refused c =
-    let start = start_of c.before.before.before.before.before.before.before in let a = start.args in let f = c.to_dyn-did in
+    let a = c.args in let f = c.to_dyn-did in
     λ w b rep snd.
-    let d = f.ensures w (around start (record { words = b.words; fuel = a.fuel })) rep in
-    body_refused a.sizes (mem start f.new.slots b) f.result.machine a.fuel w a.kind a.v (top start w b rep) c.in-Refused.e (sym c.in-Refused.is ∙ d.answer) d.world
+    let d = f.ensures w (around c.before.before.before.before.before.before.before.before.before.before.before.before.before (record { words = b.words; fuel = a.fuel })) rep in
+    body_refused a.sizes (mem c.before.before.before.before.before.before.before.before.before.before.before.before.before f.new.slots b) f.result.machine a.fuel w a.kind a.v (top c.before.before.before.before.before.before.before.before.before.before.before.before.before w b rep) c.in-Refused.e (sym c.in-Refused.is ∙ d.answer) d.world
 
 pub shape_of-slots-in-Word : goal.shape_of-slots-in-Word
 shape_of-slots-in-Word c = c.coro_returned-told.auto.slots ∙ c.to_dyn-did.auto.slots
 
 pub returns-in-Word : goal.returns-in-Word
 returns-in-Word c =
-    let start = start_of c.before.before.before.before.before.before.before.before.before.before.before.before.before.before.before.before.before.before.before.before.before.before.before.before.before.before.before.before.before.before.before.before.before.before.before in
-    let a = start.args in let f = c.to_dyn-did in let p = c.pop-k in let g = c.coro_returned-told in
+    let a = c.args in let f = c.to_dyn-did in let p = c.pop-k in let g = c.coro_returned-told in
     λ w b rep snd.
     let u = (to_dyn a.kind a.v w).world in
-    let t = top start w b rep in
+    let t = top c.before.before.before.before.before.before.before.before.before.before.before.before.before.before.before.before.before.before.before.before.before.before.before.before.before.before.before.before.before.before.before.before.before.before.before.before.before.before.before.before.before w b rep in
     let fed : Beside = record { words = b.words; fuel = a.fuel } in
-    let d = f.ensures w (around start fed) rep in
-    let r = p.ensures a.sizes u (under start f.new.slots fed) d.world in
-    let N = lent p.new.stack p.new.frames a.chain.now f.new.slots a.saved-stack.now a.saved-frames.now b in
+    let d = f.ensures w (around c.before.before.before.before.before.before.before.before.before.before.before.before.before.before.before.before.before.before.before.before.before.before.before.before.before.before.before.before.before.before.before.before.before.before.before.before.before.before.before.before.before fed) rep in
+    let r = p.ensures a.sizes u (under c.before.before.before.before.before.before.before.before.before.before.before.before.before.before.before.before.before.before.before.before.before.before.before.before.before.before.before.before.before.before.before.before.before.before.before.before.before.before.before.before.before f.new.slots fed) d.world in
+    let N = lent p.new.stack p.new.frames a.chain.now f.new.slots a.saved_stack.now a.saved_frames.now b in
     let q = popped-to a.sizes N p.result a.fuel u t.top t.rest (dyn-top a.kind a.v w snd t) r in
     let L = g.new in
-    body-returns a.sizes (lent L.0 L.1.0 L.1.1.0 L.1.1.1.0 L.1.1.1.1.0 L.1.1.1.1.1.0 b) g.result.machine g.result.fuel w a.kind a.v t
+    body-returns a.sizes (lent L.stack L.frames L.chain L.slots L.saved_stack L.saved_frames b) g.result.machine g.result.fuel w a.kind a.v t
     c.in-Word.x (sym c.in-Word.is ∙ d.answer) (g.ensures (pop_to t.top t.rest u) b q (sound-rowed u (dyn-sounds a.kind a.v w snd)))

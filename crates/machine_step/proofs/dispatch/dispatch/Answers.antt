@@ -3,56 +3,42 @@ use mathlib.Core.Path.{refl}
 use Rattle.exec_arm.proofs.Fitting.{around}
 use Rattle.machine_step.proofs.Calls.{as_row, as_same, as-instruction, made_of, lent_ok}
 use Rattle.machine_step.proofs.Ranges.{unwind-narrow, are-instructions}
-use Rattle.machine_step.proofs.dispatch.dispatch.Lts as lts
-use Rattle.machine_step.proofs.dispatch.dispatch.Reads as reads
-use Rattle.machine_step.proofs.dispatch.dispatch.Tie as tie
 use Rattle.machine_step.proofs.dispatch.dispatch.Goals as goal
 
-abbrev Start : Type 0
-Start = lts.Start tie.the-claims reads.Pre reads.Post
-
-abbrev After-shared_slice_known-1 : Type 0
-After-shared_slice_known-1 = lts.After-shared_slice_known tie.the-claims reads.Pre reads.Post
-
--- `dispatch` meets the definition, by the operation. Assumes nothing.
--- from a match to the start
-abbrev start_of : After-shared_slice_known-1 → Start
-start_of c = c.before.before.before.before.before.before.before.before.before
-
 pub finish-did-requires : goal.finish-did-requires
-finish-did-requires c = let s = start_of c.before.before.before.before.before.before.before.before.before.before in let ok = s.requires.ok in lent_ok ok ok.rep ok.room
+finish-did-requires c = let ok = c.requires.ok in lent_ok ok ok.rep ok.room
 
 pub unwind-did-requires : goal.unwind-did-requires
 unwind-did-requires c =
-    let s = start_of c.before.before.before.before.before.before.before.before.before.before in let ok = s.requires.ok in
-    record { ok = lent_ok ok ok.rep ok.room; narrow = unwind-narrow s.args.op _ _ c.in-Unwind.is s.requires.within }
+    let ok = c.requires.ok in
+    record { ok = lent_ok ok ok.rep ok.room; narrow = unwind-narrow c.args.op _ _ c.in-Unwind.is c.requires.within }
 
 pub spawn_task-did-requires : goal.spawn_task-did-requires
-spawn_task-did-requires c = let s = start_of c.before.before.before.before.before.before in let ok = s.requires.ok in record { sizes = s.args.sizes; ok = lent_ok ok ok.rep ok.room }
+spawn_task-did-requires c = let ok = c.requires.ok in record { sizes = c.args.sizes; ok = lent_ok ok ok.rep ok.room }
 
 pub host_call-did-requires : goal.host_call-did-requires
-host_call-did-requires c = let s = start_of c.before.before.before.before.before in let ok = s.requires.ok in lent_ok ok ok.rep ok.room
+host_call-did-requires c = let ok = c.requires.ok in lent_ok ok ok.rep ok.room
 
 pub host_entry-did-requires : goal.host_entry-did-requires
-host_entry-did-requires c = let s = start_of c.before.before.before.before.before.before.before.before.before.before in let ok = s.requires.ok in lent_ok ok ok.rep ok.room
+host_entry-did-requires c = let ok = c.requires.ok in lent_ok ok ok.rep ok.room
 
 pub function_call-did-requires : goal.function_call-did-requires
-function_call-did-requires c = let s = start_of c.before.before.before.before.before in let ok = s.requires.ok in lent_ok ok ok.rep ok.room
+function_call-did-requires c = let ok = c.requires.ok in lent_ok ok ok.rep ok.room
 
 pub put_word-answer-requires : goal.put_word-answer-requires
-put_word-answer-requires c = let s = start_of c.before.before.before.before.before in let ok = s.requires.ok in lent_ok ok ok.rep ok.room
+put_word-answer-requires c = let ok = c.requires.ok in lent_ok ok ok.rep ok.room
 
 pub make_iterator-did-requires : goal.make_iterator-did-requires
-make_iterator-did-requires c = let s = start_of c.before.before.before.before.before in let ok = s.requires.ok in lent_ok ok ok.rep ok.room
+make_iterator-did-requires c = let ok = c.requires.ok in lent_ok ok ok.rep ok.room
 
 pub hand_over-did-requires : goal.hand_over-did-requires
-hand_over-did-requires c = let s = start_of c.before.before.before.before.before.before in let ok = s.requires.ok in record { sizes = s.args.sizes; ok = lent_ok ok ok.rep ok.room }
+hand_over-did-requires c = let ok = c.requires.ok in record { sizes = c.args.sizes; ok = lent_ok ok ok.rep ok.room }
 
 pub stop_run-did-requires : goal.stop_run-did-requires
-stop_run-did-requires c = let s = start_of c.before.before.before.before.before.before.before.before.before in let ok = s.requires.ok in lent_ok ok ok.rep ok.room
+stop_run-did-requires c = let ok = c.requires.ok in lent_ok ok ok.rep ok.room
 
 pub instruction-requires : goal.instruction-requires
-instruction-requires c = let s = start_of c.before.before.before.before.before.before.before.before.before in let ok = s.requires.ok in lent_ok ok ok.rep ok.room
+instruction-requires c = let ok = c.requires.ok in lent_ok ok ok.rep ok.room
 
 pub shape_of-stack-in-Finish : goal.shape_of-stack-in-Finish
 shape_of-stack-in-Finish c = search
@@ -221,5 +207,5 @@ shape_of-finalize-in_default c = search
 
 pub returns-in_default : goal.returns-in_default
 returns-in_default c =
-    let o = (start_of c.before.before.before.before.before.before.before.before.before.before.before.before.before.before.before.before.before.before.before.before.before.before.before.before).args.op in
+    let o = c.args.op in
     λ w b rep snd. as-instruction _ _ _ _ w o _ (are-instructions o c.in_default.in_default-own.keys14) (λ pc t arm q. c.instruction.ensures pc t arm q w (around rep) rep snd)

@@ -54,9 +54,9 @@ returns-in-Finish c = as-op c.in-Finish.is (unfold typed in search in-range dept
 pub returns-in-Unwind : goal.returns-in-Unwind
 unfolding typed
 returns-in-Unwind c =
-    let g = c.op-in-Unwind-1.given.0 in let w = c.word-w in
+    let w = c.word-w in
     let within : is_word w.result ≡ true = search in-range in
-    as-op c.in-Unwind.is (both (is_word (word_of g.0)) (opt_pc g.1.0) (subst (λ v. is_word v ≡ true) w.ensures within) c.opt_pc.ensures)
+    as-op c.in-Unwind.is (both (is_word (word_of c.in-Unwind.fault)) (opt_pc c.in-Unwind.pc) (subst (λ v. is_word v ≡ true) w.ensures within) c.opt_pc.ensures)
 
 pub returns-in-SpawnTask : goal.returns-in-SpawnTask
 returns-in-SpawnTask c = as-op c.in-SpawnTask.is (unfold typed in search in-range depth 9)

@@ -9,58 +9,44 @@ use Rattle.memory_world.specs.Lendings.{six_setup, plain}
 use Rattle.memory_world.specs.Contract.{with}
 use Rattle.memory_world.proofs.Does.{SameLengths}
 use Rattle.machine_unwind.proofs.Along.{along-start, along-none, along-ends, along-fewer, along-more}
-use Rattle.machine_unwind.proofs.search.search.Invariants as inv
 use Rattle.machine_unwind.proofs.search.search.Lts as lts
 use Rattle.machine_unwind.proofs.search.search.Reads as reads
 use Rattle.machine_unwind.proofs.search.search.Tie as tie
 use Rattle.machine_unwind.proofs.search.search.Goals as goal
 
 abbrev Start : Type 0
-Start = lts.Start tie.the-claims reads.Pre reads.Post inv.invariant-loop-n inv.decreases-loop-n
+Start = lts.Start tie.the-claims reads.Pre reads.Post goal.the-invariant-loop-n goal.the-decreases-loop-n
 
 abbrev At-loop-n : Type 0
-At-loop-n = lts.At-loop tie.the-claims reads.Pre reads.Post inv.invariant-loop-n inv.decreases-loop-n
+At-loop-n = lts.At-loop tie.the-claims reads.Pre reads.Post goal.the-invariant-loop-n goal.the-decreases-loop-n
 
 abbrev In-loop-n : Type 0
-In-loop-n = lts.Then1 tie.the-claims reads.Pre reads.Post inv.invariant-loop-n inv.decreases-loop-n
+In-loop-n = lts.Then1 tie.the-claims reads.Pre reads.Post goal.the-invariant-loop-n goal.the-decreases-loop-n
 
 abbrev After-turn-did : Type 0
-After-turn-did = lts.After-turn tie.the-claims reads.Pre reads.Post inv.invariant-loop-n inv.decreases-loop-n
-
-abbrev After-goes_on : Type 0
-After-goes_on = lts.After-goes_on tie.the-claims reads.Pre reads.Post inv.invariant-loop-n inv.decreases-loop-n
-
--- the ways back that several clauses take, and the words there
-abbrev start_of : At-loop-n → Start
-start_of c = c.before.before.before.before.before.before.before.before
-
-abbrev loop-of : After-turn-did → At-loop-n
-loop-of c = c.before.before.before.before.before.before.before.before.before
-
-abbrev turn-of : After-goes_on → After-turn-did
-turn-of c = c.before.before.before.before.before.before.before.before.before.before.before.before.before.before.before
+After-turn-did = lts.After-turn tie.the-claims reads.Pre reads.Post goal.the-invariant-loop-n goal.the-decreases-loop-n
 
 abbrev at-start : Start → Beside → Lent
 at-start c = let a = c.args in six_setup a.stack.now a.frames.now a.chain.now a.slots.now a.saved_stack.now a.saved_frames.now a.setup.now plain
 
 abbrev at-loop : At-loop-n → Beside → Lent
-at-loop c = let a = c.loop-n in six_setup a.stack a.frames a.chain a.slots a.saved-stack a.saved-frames (start_of c).args.setup.now plain
+at-loop c = let a = c.loop-n in six_setup a.stack a.frames a.chain a.slots a.saved_stack a.saved_frames c.args.setup.now plain
 
 abbrev at_turn : After-turn-did → Beside → Lent
 at_turn c =
     let e = c.turn-did.new in
-    six_setup e.0 e.1.0 e.1.1.0 e.1.1.1.0 e.1.1.1.1.0 e.1.1.1.1.1.0 (start_of (loop-of c)).args.setup.now plain
+    six_setup e.stack e.frames e.chain e.slots e.saved_stack e.saved_frames c.args.setup.now plain
 
 some_left : (c : In-loop-n) → 1 ≤ c.loop-n.n.depth
 some_left c = omega (arith, c.loop-n-test.true)
 
-so_far : (c : At-loop-n) → SameLengths (at-start (start_of c) c.loop-n.invariant.ok.beside) (at-loop c c.loop-n.invariant.ok.beside)
+so_far : (c : At-loop-n) → SameLengths (at-start c.before.before.before.before.before.before.before.before c.loop-n.invariant.ok.beside) (at-loop c c.loop-n.invariant.ok.beside)
 so_far c = c.loop-n.invariant.kept c.loop-n.invariant.ok.beside
 
-same_turn : (c : After-turn-did) (b : Beside) → SameLengths (at-loop (loop-of c) b) (at_turn c b)
+same_turn : (c : After-turn-did) (b : Beside) → SameLengths (at-loop c.before.before.before.before.before.before.before.before.before b) (at_turn c b)
 same_turn c b =
     let k = c.turn-did.auto in
-    record { stack = k.0; frames = k.1.0; chain = k.1.1.0; slots = k.1.1.1.0; saved_stack = k.1.1.1.1.0; saved_frames = k.1.1.1.1.1.0; ready = refl; finalize = refl; setup = refl }
+    record { stack = k.stack; frames = k.frames; chain = k.chain; slots = k.slots; saved_stack = k.saved_stack; saved_frames = k.saved_frames; ready = refl; finalize = refl; setup = refl }
 
 pub loop-n-init : goal.loop-n-init
 loop-n-init c = along-start c.args.sizes c.args.value c.args.func c.args.pc (at-start c.before.before.before.before.before.before.before.before) (with c.args.m c.args.fuel) c.requires.ok
@@ -69,40 +55,40 @@ pub turn-did-requires : goal.turn-did-requires
 turn-did-requires c = record { ok = c.loop-n.invariant.ok; some = omega (arith, c.loop-n-test.true) }
 
 pub shape_of-stack-then-not-goes_on : goal.shape_of-stack-then-not-goes_on
-shape_of-stack-then-not-goes_on c = let did = turn-of c.before.before in did.turn.kept.0 ∙ (so_far (loop-of did)).stack
+shape_of-stack-then-not-goes_on c = c.turn-did.auto.stack ∙ (so_far c.before.before.before.before.before.before.before.before.before.before.before.before.before.before.before.before.before.before.before.before.before.before.before.before.before.before).stack
 
 pub shape_of-frames-then-not-goes_on : goal.shape_of-frames-then-not-goes_on
-shape_of-frames-then-not-goes_on c = let did = turn-of c.before.before in did.turn.kept.1.0 ∙ (so_far (loop-of did)).frames
+shape_of-frames-then-not-goes_on c = c.turn-did.auto.frames ∙ (so_far c.before.before.before.before.before.before.before.before.before.before.before.before.before.before.before.before.before.before.before.before.before.before.before.before.before.before).frames
 
 pub shape_of-chain-then-not-goes_on : goal.shape_of-chain-then-not-goes_on
-shape_of-chain-then-not-goes_on c = let did = turn-of c.before.before in did.turn.kept.1.1.0 ∙ (so_far (loop-of did)).chain
+shape_of-chain-then-not-goes_on c = c.turn-did.auto.chain ∙ (so_far c.before.before.before.before.before.before.before.before.before.before.before.before.before.before.before.before.before.before.before.before.before.before.before.before.before.before).chain
 
 pub shape_of-slots-then-not-goes_on : goal.shape_of-slots-then-not-goes_on
-shape_of-slots-then-not-goes_on c = let did = turn-of c.before.before in did.turn.kept.1.1.1.0 ∙ (so_far (loop-of did)).slots
+shape_of-slots-then-not-goes_on c = c.turn-did.auto.slots ∙ (so_far c.before.before.before.before.before.before.before.before.before.before.before.before.before.before.before.before.before.before.before.before.before.before.before.before.before.before).slots
 
 pub shape_of-saved_stack-then-not-goes_on : goal.shape_of-saved_stack-then-not-goes_on
-shape_of-saved_stack-then-not-goes_on c = let did = turn-of c.before.before in did.turn.kept.1.1.1.1.0 ∙ (so_far (loop-of did)).saved_stack
+shape_of-saved_stack-then-not-goes_on c = c.turn-did.auto.saved_stack ∙ (so_far c.before.before.before.before.before.before.before.before.before.before.before.before.before.before.before.before.before.before.before.before.before.before.before.before.before.before).saved_stack
 
 pub shape_of-saved_frames-then-not-goes_on : goal.shape_of-saved_frames-then-not-goes_on
-shape_of-saved_frames-then-not-goes_on c = let did = turn-of c.before.before in did.turn.kept.1.1.1.1.1.0 ∙ (so_far (loop-of did)).saved_frames
+shape_of-saved_frames-then-not-goes_on c = c.turn-did.auto.saved_frames ∙ (so_far c.before.before.before.before.before.before.before.before.before.before.before.before.before.before.before.before.before.before.before.before.before.before.before.before.before.before).saved_frames
 
 pub returns-then-not-goes_on : goal.returns-then-not-goes_on
 returns-then-not-goes_on c =
-    let did = turn-of c.before.before in let loop = loop-of did in let p = (start_of loop).requires in let r = did.turn.result in
-    along-ends loop.loop.inv (some_left did.before.before.before.before.before.before.before) p.func p.pc (at_turn did) (with r.machine r.fuel) r.answer
-    did.turn.ensures (sym c.goes_on.ensures ∙ c.if-not-goes_on.true)
+    let p = c.requires in let r = c.turn-did.result in
+    along-ends c.loop-n.invariant (some_left c.before.before.before.before.before.before.before.before.before.before.before.before.before.before.before.before.before.before.before.before.before.before.before.before) p.func p.pc (at_turn c.before.before.before.before.before.before.before.before.before.before.before.before.before.before.before.before.before) (with r.machine r.fuel) r.answer
+    c.turn-did.ensures (sym c.goes_on.ensures ∙ c.if-not-goes_on.true)
 
 pub loop-n-smaller : goal.loop-n-smaller
 loop-n-smaller c =
-    let did = turn-of c.before.before in let loop = loop-of did in let p = (start_of loop).requires in let r = did.turn.result in
-    along-fewer loop.loop.inv (some_left did.before.before.before.before.before.before.before) p.func p.pc (at_turn did) (with r.machine r.fuel) r.answer
-    did.turn.ensures (same_turn did) (sym c.goes_on.ensures ∙ c.if-not-goes_on.false)
+    let p = c.requires in let r = c.turn-did.result in
+    along-fewer c.loop-n.invariant (some_left c.before.before.before.before.before.before.before.before.before.before.before.before.before.before.before.before.before.before.before.before.before.before.before.before) p.func p.pc (at_turn c.before.before.before.before.before.before.before.before.before.before.before.before.before.before.before.before.before) (with r.machine r.fuel) r.answer
+    c.turn-did.ensures (same_turn c.before.before.before.before.before.before.before.before.before.before.before.before.before.before.before.before.before) (sym c.goes_on.ensures ∙ c.if-not-goes_on.false)
 
 pub loop-n-preserved : goal.loop-n-preserved
 loop-n-preserved c =
-    let did = turn-of c.before.before in let loop = loop-of did in let p = (start_of loop).requires in let r = did.turn.result in
-    along-more loop.loop.inv (some_left did.before.before.before.before.before.before.before) p.func p.pc (at_turn did) (with r.machine r.fuel) r.answer
-    did.turn.ensures (same_turn did) (sym c.goes_on.ensures ∙ c.if-not-goes_on.false)
+    let p = c.requires in let r = c.turn-did.result in
+    along-more c.loop-n.invariant (some_left c.before.before.before.before.before.before.before.before.before.before.before.before.before.before.before.before.before.before.before.before.before.before.before.before) p.func p.pc (at_turn c.before.before.before.before.before.before.before.before.before.before.before.before.before.before.before.before.before) (with r.machine r.fuel) r.answer
+    c.turn-did.ensures (same_turn c.before.before.before.before.before.before.before.before.before.before.before.before.before.before.before.before.before) (sym c.goes_on.ensures ∙ c.if-not-goes_on.false)
 
 pub shape_of-stack : goal.shape_of-stack
 shape_of-stack c = (so_far c.before.before.before).stack

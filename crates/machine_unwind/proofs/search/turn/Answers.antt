@@ -23,13 +23,9 @@ mem c b =
     let a = c.args in
     six_setup a.stack.now a.frames.now a.chain.now a.slots.now a.saved_stack.now a.saved_frames.now a.setup.now plain b
 
--- the way back to the start
-abbrev start_of : After-handler_in → Start
-start_of c = c.before.before.before.before.before.before.before.before
-
 -- the handler that the words tell is the world's
-read : (c : After-handler_in) (w : World) (b : Beside) → Rep (start_of c).args.sizes w (mem (start_of c) b) (start_of c).args.m (start_of c).args.fuel → c.handler_in.result ≡ handler_in w
-read c w b rep = c.handler_in.ensures (start_of c).args.sizes w (record { words = mem (start_of c) b; fuel = (start_of c).args.fuel }) rep
+read : (c : After-handler_in) (w : World) (b : Beside) → Rep c.args.sizes w (mem c.before.before.before.before.before.before.before.before b) c.args.m c.args.fuel → c.handler_in.result ≡ handler_in w
+read c w b rep = c.handler_in.ensures c.args.sizes w (record { words = mem c.before.before.before.before.before.before.before.before b; fuel = c.args.fuel }) rep
 
 pub handler_in-requires : goal.handler_in-requires
 handler_in-requires c =
@@ -39,19 +35,17 @@ handler_in-requires c =
 
 pub take_handler-requires : goal.take_handler-requires
 take_handler-requires c =
-    let start = start_of c.before.before.before.before.before.before in
-    let a = start.args in
-    let o = start.requires.ok in
-    catch-fits a.sizes (mem start o.beside) a.m a.fuel o.world o.rep o.sound start.requires.some c.in-By.h
-    (sym c.in-By.is ∙ read c.before.before.before.before.before.before o.world o.beside o.rep)
+    let a = c.args in
+    let o = c.requires.ok in
+    catch-fits a.sizes (mem c.before.before.before.before.before.before.before.before.before.before.before.before o.beside) a.m a.fuel o.world o.rep o.sound c.requires.some c.in-By.h
+    (sym c.in-By.is ∙ read c.before.before.before.before o.world o.beside o.rep)
 
 pub leave-requires : goal.leave-requires
 leave-requires c =
-    let start = start_of c.before.before.before.before.before.before.before.before.before in
-    let a = start.args in
-    let o = start.requires.ok in
+    let a = c.args in
+    let o = c.requires.ok in
     let beside : Beside = record { words = on_setup a.setup.now o.beside.words; fuel = o.beside.fuel } in
-    record { ok = record { world = o.world; beside = beside; rep = o.rep; sound = o.sound; room = o.room }; some = start.requires.some }
+    record { ok = record { world = o.world; beside = beside; rep = o.rep; sound = o.sound; room = o.room }; some = c.requires.some }
 
 pub shape_of-stack-in-By : goal.shape_of-stack-in-By
 shape_of-stack-in-By c = c.take_handler.auto.stack
@@ -61,11 +55,11 @@ shape_of-frames-in-By c = c.take_handler.auto.frames
 
 pub returns-in-By : goal.returns-in-By
 returns-in-By c =
-    let a = (start_of c.before.before.before.before.before.before.before.before.before.before.before).args in let t = c.take_handler in let e = t.new in
+    let a = c.args in let t = c.take_handler in let e = t.new in
     λ w b rep snd.
-    turn-takes a.sizes (six_setup e.0 e.1.0 a.chain.now a.slots.now a.saved-stack.now a.saved-frames.now a.setup.now plain b) t.result.machine t.result.fuel w
-    a.value a.func a.pc t.result.answer c.in-By.h (sym c.in-By.is ∙ read c.before.before.before.before.before.before.before.before.before.before.before w b rep)
-    (t.ensures a.sizes w (record { words = mem (start_of c.before.before.before.before.before.before.before.before.before.before.before) b; fuel = b.fuel }) rep)
+    turn-takes a.sizes (six_setup e.stack e.frames a.chain.now a.slots.now a.saved_stack.now a.saved_frames.now a.setup.now plain b) t.result.machine t.result.fuel w
+    a.value a.func a.pc t.result.answer c.in-By.h (sym c.in-By.is ∙ read c.before.before.before.before.before.before.before.before.before w b rep)
+    (t.ensures a.sizes w (record { words = mem c.before.before.before.before.before.before.before.before.before.before.before.before.before.before.before.before.before b; fuel = b.fuel }) rep)
 
 pub shape_of-stack-in-Nothing : goal.shape_of-stack-in-Nothing
 shape_of-stack-in-Nothing c = c.leave.auto.stack
@@ -87,8 +81,8 @@ shape_of-saved_frames c = c.leave.auto.saved_frames
 
 pub returns-in-Nothing : goal.returns-in-Nothing
 returns-in-Nothing c =
-    let a = (start_of c.before.before.before.before.before.before.before.before.before.before.before.before.before.before.before.before.before.before.before.before.before.before).args in let t = c.leave in let e = t.new in
+    let a = c.args in let t = c.leave in let e = t.new in
     λ w b rep snd.
-    turn-leaves a.sizes (six_setup e.0 e.1.0 e.1.1.0 e.1.1.1.0 e.1.1.1.1.0 e.1.1.1.1.1.0 a.setup.now plain b) t.result.machine t.result.fuel w
-    a.value a.func a.pc t.result.answer (sym c.in-Nothing.is ∙ read c.before.before.before.before.before.before.before.before.before.before.before.before.before.before.before.before.before.before.before.before.before.before w b rep)
+    turn-leaves a.sizes (six_setup e.stack e.frames e.chain e.slots e.saved_stack e.saved_frames a.setup.now plain b) t.result.machine t.result.fuel w
+    a.value a.func a.pc t.result.answer (sym c.in-Nothing.is ∙ read c.before.before.before.before.before.before.before.before.before.before.before.before.before.before.before.before.before.before.before.before.before w b rep)
     (t.ensures w (record { words = on_setup a.setup.now b.words; fuel = b.fuel }) rep snd)

@@ -24,20 +24,17 @@ mem c b =
     let a = c.args in
     six_setup a.stack.now a.frames.now a.chain.now a.slots.now a.saved_stack.now a.saved_frames.now a.setup.now plain b
 
-abbrev start_of : After-thrown-did → Start
-start_of c = c.before.before.before.before.before.before.before.before.before.before
-
 -- the words with what was made
 abbrev after-made : After-thrown-did → Beside → Lent
 after-made c b =
-    let a = (start_of c).args in
-    six_setup a.stack.now a.frames.now a.chain.now c.thrown-did.new.slots a.saved-stack.now a.saved-frames.now a.setup.now plain b
+    let a = c.args in
+    six_setup a.stack.now a.frames.now a.chain.now c.thrown-did.new.slots a.saved_stack.now a.saved_frames.now a.setup.now plain b
 
-told : (c : After-thrown-did) (w : World) (b : Beside) → Rep (start_of c).args.sizes w (mem (start_of c) b) (start_of c).args.m (start_of c).args.fuel
-    → Does (start_of c).args.sizes (thrown (start_of c).args.fault w) (after-made c b) c.thrown-did.result.machine (start_of c).args.fuel c.thrown-did.result.answer
+told : (c : After-thrown-did) (w : World) (b : Beside) → Rep c.args.sizes w (mem c.before.before.before.before.before.before.before.before.before.before b) c.args.m c.args.fuel
+    → Does c.args.sizes (thrown c.args.fault w) (after-made c b) c.thrown-did.result.machine c.args.fuel c.thrown-did.result.answer
 told c w b rep =
-    let a = (start_of c).args in
-    let beside : Beside = record { words = mem (start_of c) b; fuel = a.fuel } in
+    let a = c.args in
+    let beside : Beside = record { words = mem c.before.before.before.before.before.before.before.before.before.before b; fuel = a.fuel } in
     c.thrown-did.ensures w beside rep (c.origin-at.ensures a.sizes w beside rep)
 
 pub thrown-did-requires : goal.thrown-did-requires
@@ -45,17 +42,17 @@ thrown-did-requires c = let o = c.requires.ok in heap-room o.rep o.sound o.room
 
 pub search-requires : goal.search-requires
 search-requires c =
-    let start = start_of c.before.before.before.before.before.before.before.before.before.before.before.before.before in let a = start.args in let o = start.requires.ok in
-    raised-fits a.sizes (mem start) (after-made c.before.before.before.before.before.before.before.before.before.before.before.before.before) a.m c.thrown-did.result.machine a.fuel o a.fault start.requires.raises c.origin-at.result
-    (c.origin-at.ensures a.sizes o.world (record { words = mem start o.beside; fuel = a.fuel }) o.rep)
+    let a = c.args in let o = c.requires.ok in
+    raised-fits a.sizes (mem c.before.before.before.before.before.before.before.before.before.before.before.before.before.before.before.before.before.before.before.before.before) (after-made c.before.before.before.before.before.before.before.before.before.before.before) a.m c.thrown-did.result.machine a.fuel o a.fault c.requires.raises c.origin-at.result
+    (c.origin-at.ensures a.sizes o.world (record { words = mem c.before.before.before.before.before.before.before.before.before.before.before.before.before.before.before.before.before.before.before.before.before o.beside; fuel = a.fuel }) o.rep)
     (record { stack = refl; frames = refl; chain = refl; slots = c.thrown-did.auto.slots; saved_stack = refl; saved_frames = refl; ready = refl; finalize = refl; setup = refl })
-    (told c.before.before.before.before.before.before.before.before.before.before.before.before.before o.world o.beside o.rep).world
+    (told c.before.before.before.before.before.before.before.before.before.before.before o.world o.beside o.rep).world
 
 pub returns-in-Refused : goal.returns-in-Refused
 returns-in-Refused c =
-    let a = (start_of c.before.before.before.before.before.before.before).args in
+    let a = c.args in
     λ w b rep snd.
-    raise-refused a.fault w a.sizes (after-made c.before.before.before.before.before.before.before b) c.thrown-did.result.machine a.fuel c.in-Refused.f c.thrown-did.result.answer c.in-Refused.is (told c.before.before.before.before.before.before.before w b rep)
+    raise-refused a.fault w a.sizes (after-made c.before.before.before.before.before b) c.thrown-did.result.machine a.fuel c.in-Refused.f c.thrown-did.result.answer c.in-Refused.is (told c.before.before.before.before.before w b rep)
 
 pub shape_of-stack : goal.shape_of-stack
 shape_of-stack c = c.search.auto.stack
@@ -77,11 +74,11 @@ shape_of-saved_frames c = c.search.auto.saved_frames
 
 pub returns-in-Word : goal.returns-in-Word
 returns-in-Word c =
-    let start = start_of c.before.before.before.before.before.before.before.before.before.before.before.before.before.before.before.before.before.before.before.before.before.before.before.before.before.before in let a = start.args in let r = c.search in let e = r.new in
+    let a = c.args in let r = c.search in let e = r.new in
     λ w b rep snd.
     let u = (thrown a.fault w).world in
-    let g = thrown-good a.fault w snd start.requires.raises in
-    let d = told c.before.before.before.before.before.before.before.before.before.before.before.before.before.before.before.before.before.before.before.before.before.before.before.before.before.before w b rep in
-    raise-searched a.fault w a.sizes (six_setup e.0 e.1.0 e.1.1.0 e.1.1.1.0 e.1.1.1.1.0 e.1.1.1.1.1.0 a.setup.now plain b)
+    let g = thrown-good a.fault w snd c.requires.raises in
+    let d = told c.before.before.before.before.before.before.before.before.before.before.before.before.before.before.before.before.before.before.before.before.before.before.before.before w b rep in
+    raise-searched a.fault w a.sizes (six_setup e.stack e.frames e.chain e.slots e.saved_stack e.saved_frames a.setup.now plain b)
     r.result.machine r.result.fuel c.in-Word.v c.thrown-did.result.answer c.origin-at.result c.in-Word.is d.answer
-    (c.origin-at.ensures a.sizes w (record { words = mem start b; fuel = a.fuel }) rep) g.still.frames r.result.answer (r.ensures u b d.world g.sound)
+    (c.origin-at.ensures a.sizes w (record { words = mem c.before.before.before.before.before.before.before.before.before.before.before.before.before.before.before.before.before.before.before.before.before.before.before.before.before.before.before.before.before.before.before.before.before.before b; fuel = a.fuel }) rep) g.still.frames r.result.answer (r.ensures u b d.world g.sound)

@@ -15,9 +15,6 @@ use Rattle.machine_unwind.proofs.unwind.unwind.Goals as goal
 abbrev Start : Type 0
 Start = lts.Start tie.the-claims reads.Pre reads.Post
 
-abbrev After-is_raisable : Type 0
-After-is_raisable = lts.After-is_raisable tie.the-claims reads.Pre reads.Post
-
 abbrev After-store_some : Type 0
 After-store_some = lts.After-store_some tie.the-claims reads.Pre reads.Post
 
@@ -33,33 +30,23 @@ at-pc c b =
     let a = c.args in
     six_setup a.stack.now c.store_some.new.frames a.chain.now a.slots.now a.saved_stack.now a.saved_frames.now a.setup.now plain b
 
--- the way back to the test
-abbrev asked_of : After-store_some → After-is_raisable
-asked_of c = c.before.before.before
-
-abbrev start_of : After-is_raisable → Start
-start_of c = c.before.before.before.before.before.before.before.before
-
 pub returns-then-not-is_raisable : goal.returns-then-not-is_raisable
 returns-then-not-is_raisable c =
-    let start = start_of c.before.before in
-    let a = start.args in
-    λ w b rep snd. unwind-refused a.sizes (mem start b) a.m a.fuel w a.fault a.pc (sym c.is_raisable.ensures ∙ c.if-not-is_raisable.true) rep
+    let a = c.args in
+    λ w b rep snd. unwind-refused a.sizes (mem c.before.before.before.before.before.before.before.before.before.before b) a.m a.fuel w a.fault a.pc (sym c.is_raisable.ensures ∙ c.if-not-is_raisable.true) rep
 
 pub raise-requires : goal.raise-requires
 raise-requires c =
-    let asked = asked_of c.before.before.before.before.before.before.before.before.before in
-    let start = start_of asked in
-    let a = start.args in
-    let o = start.requires.ok in
+    let a = c.args in
+    let o = c.requires.ok in
     let n = with a.m a.fuel in
     let u = store_some a.pc o.world in
     record {
       ok =
-          ok-next a.sizes (mem start) (at-pc c.before.before.before.before.before.before.before.before.before) n n o u (some-setup a.pc o.world) (some-sounds a.pc o.world start.requires.narrow o.sound)
+          ok-next a.sizes (mem c.before.before.before.before.before.before.before.before.before.before.before.before.before.before.before.before.before.before.before.before) (at-pc c.before.before.before.before.before.before.before.before.before) n n o u (some-setup a.pc o.world) (some-sounds a.pc o.world c.requires.narrow o.sound)
           (record { stack = refl; frames = c.store_some.auto.frames; chain = refl; slots = refl; saved_stack = refl; saved_frames = refl; ready = refl; finalize = refl; setup = refl })
-          (c.store_some.ensures a.sizes o.world (record { words = mem start o.beside; fuel = a.fuel }) o.rep);
-      raises = sym asked.is-raisable.ensures ∙ c.if-not-is_raisable.false;
+          (c.store_some.ensures a.sizes o.world (record { words = mem c.before.before.before.before.before.before.before.before.before.before.before.before.before.before.before.before.before.before.before.before o.beside; fuel = a.fuel }) o.rep);
+      raises = sym c.is_raisable.ensures ∙ c.if-not-is_raisable.false;
     }
 
 pub shape_of-stack : goal.shape_of-stack
@@ -82,12 +69,10 @@ shape_of-saved_frames c = c.raise.auto.saved_frames
 
 pub returns : goal.returns
 returns c =
-    let asked = asked_of c.before.before.before.before.before.before.before.before.before.before.before.before.before.before.before.before.before.before.before.before.before.before in
-    let start = start_of asked in
-    let a = start.args in
+    let a = c.args in
     let r = c.raise in
     let e = r.new in
     λ w b rep snd.
-    unwind-raises a.sizes (six_setup e.0 e.1.0 e.1.1.0 e.1.1.1.0 e.1.1.1.1.0 e.1.1.1.1.1.0 a.setup.now plain b)
-    r.result.machine r.result.fuel w a.fault a.pc r.result.answer (sym asked.is-raisable.ensures ∙ c.if-not-is_raisable.false)
-    (r.ensures (store_some a.pc w) b (c.store_some.ensures a.sizes w (record { words = mem start b; fuel = a.fuel }) rep) (some-sounds a.pc w start.requires.narrow snd))
+    unwind-raises a.sizes (six_setup e.stack e.frames e.chain e.slots e.saved_stack e.saved_frames a.setup.now plain b)
+    r.result.machine r.result.fuel w a.fault a.pc r.result.answer (sym c.is_raisable.ensures ∙ c.if-not-is_raisable.false)
+    (r.ensures (store_some a.pc w) b (c.store_some.ensures a.sizes w (record { words = mem c.before.before.before.before.before.before.before.before.before.before.before.before.before.before.before.before.before.before.before.before.before.before.before.before.before.before.before.before.before.before.before.before.before b; fuel = a.fuel }) rep) (some-sounds a.pc w c.requires.narrow snd))

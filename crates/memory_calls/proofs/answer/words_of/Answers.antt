@@ -16,8 +16,7 @@ returns-in-Refused c = rw (c.number.ensures, c.word.ensures) (sym (ap answer_wor
 pub returns-in-Stepped : goal.returns-in-Stepped
 returns-in-Stepped c =
     let t = c.told_step-t.result in
-    let arm = c.a-in-Stepped-1.given in
-    stepped t.0 t.1 t.2 arm.0.0 arm.0.1.0 c.told_step-t.ensures ∙ sym (ap answer_words arm.1)
+    stepped t.0 t.1 t.2 c.in-Stepped.step c.in-Stepped.taken c.told_step-t.ensures ∙ sym (ap answer_words c.in-Stepped.is)
 
 pub returns-in-Cleanup : goal.returns-in-Cleanup
 returns-in-Cleanup c = sym (ap answer_words c.in-Cleanup.is)
@@ -38,6 +37,4 @@ pub returns-in-Stopped : goal.returns-in-Stopped
 returns-in-Stopped c = sym (ap answer_words c.in-Stopped.is)
 
 pub returns-in-Took : goal.returns-in-Took
-returns-in-Took c =
-    let arm = c.a-in-Took-1.given in
-    took c.told_outcome-t.result arm.0.0 c.told_outcome-t.ensures ∙ sym (ap answer_words arm.1)
+returns-in-Took c = took c.told_outcome-t.result c.in-Took.o c.told_outcome-t.ensures ∙ sym (ap answer_words c.in-Took.is)

@@ -13,21 +13,9 @@ use Rattle.outer_call.proofs.call.called.Goals as goal
 abbrev Start : Type 0
 Start = lts.Start tie.the-claims reads.Pre reads.Post
 
-abbrev After-sound_call : Type 0
-After-sound_call = lts.After-sound_call tie.the-claims reads.Pre reads.Post
-
-abbrev After-slice_known-16-1 : Type 0
-After-slice_known-16-1 = lts.After-slice_known16 tie.the-claims reads.Pre reads.Post
-
 -- `called` meets its contract: refused, or done on sound words. Assumes nothing.
 abbrev mem : Start → Lent
 mem c = nine c.args.stack.now c.args.frames.now c.args.chain.now c.args.slots.now c.args.saved_stack.now c.args.saved_frames.now c.args.ready.now c.args.finalize.now c.args.setup.now plain
-
-abbrev start_of : After-sound_call → Start
-start_of c = c.before.before.before.before.before.before.before.before.before.before.before.before.before.before.before.before.before.before.before.before
-
-abbrev sound-call-of : After-slice_known-16-1 → After-sound_call
-sound-call-of c = c.before.before.before.before.before.before.before.before.before.before.before.before.before.before.before.before
 
 pub returns-then-not-ok : goal.returns-then-not-ok
 returns-then-not-ok c =
@@ -41,28 +29,28 @@ pub sound_call-requires : goal.sound_call-requires
 sound_call-requires c = record { sound = sym c.requires ∙ c.if-not-ok.false; sizes = c.sizes-sizes.ensures.words }
 
 pub shape_of-stack : goal.shape_of-stack
-shape_of-stack c = (sound-call-of c.before).sound-call.auto.0
+shape_of-stack c = c.sound_call.auto.stack
 
 pub shape_of-frames : goal.shape_of-frames
-shape_of-frames c = (sound-call-of c.before).sound-call.auto.1.0
+shape_of-frames c = c.sound_call.auto.frames
 
 pub shape_of-chain : goal.shape_of-chain
-shape_of-chain c = (sound-call-of c.before).sound-call.auto.1.1.0
+shape_of-chain c = c.sound_call.auto.chain
 
 pub shape_of-slots : goal.shape_of-slots
-shape_of-slots c = (sound-call-of c.before).sound-call.auto.1.1.1.0
+shape_of-slots c = c.sound_call.auto.slots
 
 pub shape_of-saved_stack : goal.shape_of-saved_stack
-shape_of-saved_stack c = (sound-call-of c.before).sound-call.auto.1.1.1.1.0
+shape_of-saved_stack c = c.sound_call.auto.saved_stack
 
 pub shape_of-saved_frames : goal.shape_of-saved_frames
-shape_of-saved_frames c = (sound-call-of c.before).sound-call.auto.1.1.1.1.1.0
+shape_of-saved_frames c = c.sound_call.auto.saved_frames
 
 pub shape_of-ready : goal.shape_of-ready
-shape_of-ready c = (sound-call-of c.before).sound-call.auto.1.1.1.1.1.1.0
+shape_of-ready c = c.sound_call.auto.ready
 
 pub shape_of-finalize : goal.shape_of-finalize
-shape_of-finalize c = (sound-call-of c.before).sound-call.auto.1.1.1.1.1.1.1.0
+shape_of-finalize c = c.sound_call.auto.finalize
 
 pub returns : goal.returns
-returns c = (sound-call-of c.before).sound-call.ensures.is
+returns c = c.sound_call.ensures.is

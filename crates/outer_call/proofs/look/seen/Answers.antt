@@ -16,18 +16,13 @@ Start = lts.Start tie.the-claims reads.Pre reads.Post
 abbrev After-place-s : Type 0
 After-place-s = lts.After-place tie.the-claims reads.Pre reads.Post
 
--- `seen` meets its contract: the part is the one that `place` tells. Assumes nothing.
-abbrev start_of : After-place-s → Start
-start_of c = c.before.before.before.before.before.before.before.before.before.before
-
 abbrev mem : Start → Lent
 mem c = nine c.args.stack.now c.args.frames.now c.args.chain.now c.args.slots.now c.args.saved_stack.now c.args.saved_frames.now c.args.ready.now c.args.finalize.now c.args.setup.now plain
 
-told : (c : After-place-s) → Part (mem (start_of c)) (start_of c).args.m (start_of c).args.fuel c.place-s.result
+told : (c : After-place-s) → Part (mem c.before.before.before.before.before.before.before.before.before.before) c.args.m c.args.fuel c.place-s.result
 told c =
-    let start = start_of c in
-    let a = start.args in
-    part_of (mem start) a.m a.fuel a.ok c.place-s.result start.requires c.place-s.ensures
+    let a = c.args in
+    part_of (mem c.before.before.before.before.before.before.before.before.before.before) a.m a.fuel a.ok c.place-s.result c.requires c.place-s.ensures
 
 pub place-s-requires : goal.place-s-requires
 place-s-requires c =
@@ -35,7 +30,7 @@ place-s-requires c =
     λ e. look-fits (mem c.before.before.before.before.before.before.before.before.before.before) a.m a.fuel (sym c.requires ∙ e)
 
 pub offset_bounds-stack-start : goal.offset_bounds-stack-start
-offset_bounds-stack-start c = let p = told c.before in let h = p.order in let k = p.inside in omega (arith, (start_of c.before).well-formed)
+offset_bounds-stack-start c = let p = told c.before in let h = p.order in let k = p.inside in omega (arith, c.well_formed)
 
 pub slice_bounds-result-count : goal.slice_bounds-result-count
 slice_bounds-result-count c = let p = told c.before in let h = p.order in omega arith

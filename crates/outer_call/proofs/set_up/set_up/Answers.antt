@@ -18,21 +18,9 @@ Start = lts.Start tie.the-claims reads.Pre reads.Post
 abbrev Else-not-allowed : Type 0
 Else-not-allowed = lts.Else1 tie.the-claims reads.Pre reads.Post
 
-abbrev After-begin : Type 0
-After-begin = lts.After-begin tie.the-claims reads.Pre reads.Post
-
-abbrev After-slice_known-18-1 : Type 0
-After-slice_known-18-1 = lts.After-slice_known18 tie.the-claims reads.Pre reads.Post
-
 -- `set_up` meets its contract: refused, or a fresh machine. Assumes nothing.
 abbrev mem : Start → Lent
 mem c = nine c.args.stack.now c.args.frames.now c.args.chain.now c.args.slots.now c.args.saved_stack.now c.args.saved_frames.now c.args.ready.now c.args.finalize.now c.args.setup.now plain
-
-abbrev allowed_of : After-begin → Else-not-allowed
-allowed_of c = c.before.before.before.before.before.before.before.before.before.before
-
-abbrev begin-of : After-slice_known-18-1 → After-begin
-begin-of c = c.before.before.before.before.before.before.before.before.before.before.before.before.before.before.before.before.before.before
 
 accepted : (c : Else-not-allowed) → set_up_ok c.args.given.now (mem c.before.before.before.before.before.before.before.before.before.before.before.before) ≡ true
 accepted c = sym (c.allowed.ensures (mem c.before.before.before.before.before.before.before.before.before.before.before.before) refl) ∙ c.if-not-allowed.false
@@ -47,36 +35,33 @@ pub begin-requires : goal.begin-requires
 begin-requires c = accepted c.before.before.before.before.before.before.before.before.before.before
 
 pub shape_of-stack : goal.shape_of-stack
-shape_of-stack c = (begin-of c.before).begin.auto.0
+shape_of-stack c = c.begin.auto.stack
 
 pub shape_of-frames : goal.shape_of-frames
-shape_of-frames c = (begin-of c.before).begin.auto.1.0
+shape_of-frames c = c.begin.auto.frames
 
 pub shape_of-chain : goal.shape_of-chain
-shape_of-chain c = (begin-of c.before).begin.auto.1.1.0
+shape_of-chain c = c.begin.auto.chain
 
 pub shape_of-slots : goal.shape_of-slots
-shape_of-slots c = (begin-of c.before).begin.auto.1.1.1.0
+shape_of-slots c = c.begin.auto.slots
 
 pub shape_of-saved_stack : goal.shape_of-saved_stack
-shape_of-saved_stack c = (begin-of c.before).begin.auto.1.1.1.1.0
+shape_of-saved_stack c = c.begin.auto.saved_stack
 
 pub shape_of-saved_frames : goal.shape_of-saved_frames
-shape_of-saved_frames c = (begin-of c.before).begin.auto.1.1.1.1.1.0
+shape_of-saved_frames c = c.begin.auto.saved_frames
 
 pub shape_of-ready : goal.shape_of-ready
-shape_of-ready c = (begin-of c.before).begin.auto.1.1.1.1.1.1.0
+shape_of-ready c = c.begin.auto.ready
 
 pub shape_of-finalize : goal.shape_of-finalize
-shape_of-finalize c = (begin-of c.before).begin.auto.1.1.1.1.1.1.1.0
+shape_of-finalize c = c.begin.auto.finalize
 
 pub shape_of-setup : goal.shape_of-setup
-shape_of-setup c = (begin-of c.before).begin.auto.1.1.1.1.1.1.1.1.0
+shape_of-setup c = c.begin.auto.setup
 
 pub returns : goal.returns
 returns c =
-    let at-begin = begin-of c.before in
-    let at-if = allowed_of at-begin in
-    let start = at-if.before.before.before.before.before.before.before.before.before.before.before.before in
-    let a = start.args in
-    at-begin.begin.ensures ∙ accepts (state (mem start) a.m a.fuel) a.given.now (accepted at-if)
+    let a = c.args in
+    c.begin.ensures ∙ accepts (state (mem c.before.before.before.before.before.before.before.before.before.before.before.before.before.before.before.before.before.before.before.before.before.before.before.before.before.before.before.before.before.before.before.before.before.before.before.before.before.before.before.before.before) a.m a.fuel) a.given.now (accepted c.before.before.before.before.before.before.before.before.before.before.before.before.before.before.before.before.before.before.before.before.before.before.before.before.before.before.before.before.before)
