@@ -1,10 +1,11 @@
 -- `free_ok` meets its contract: the rows passed so far are held or zero. Assumes nothing.
-use mathlib.Core.Path.{refl, sym, ◌∙◌}
+use mathlib.Core.Path.{◌≡◌, refl, sym, ◌∙◌, subst}
 use mathlib.Core.Bool.{Bool, true, ◌||◌}
 use mathlib.Core.List.{List}
 use Prim.Native.Nat.{ℕ, ◌-◌}
 use native.Mathlib.Omega.{arith}
 use borrow.Author.Tests.{not-true, not-false}
+use Rattle.lists.specs.Tests.{all_below}
 use Rattle.lists.proofs.Tests.{fails-at, holds-next}
 use Rattle.memory_world.specs.declared.machine.Sizes.{Sizes}
 use Rattle.check_tables.specs.Queue.{bit_at}
@@ -26,13 +27,19 @@ returns-then-not-free_at c =
     sym
     (fails-at a.sizes.rows c.loop-n.n (free a.sizes a.saved_stack.now a.saved_frames.now a.mask) c.loop-n-test.true (sym c.free_at.ensures ∙ c.if-not-free_at.true))
 
+pub overflow_step-n : goal.overflow_step-n
+overflow_step-n c = omega (arith, c.requires.few, c.loop-n-test.true)
+
 pub loop-n-smaller : goal.loop-n-smaller
-loop-n-smaller c = add-n c
+loop-n-smaller c = omega (arith, c.loop-n-test.true)
 
 pub loop-n-preserved : goal.loop-n-preserved
-loop-n-preserved c = omega (arith, c.loop-n-test.true)
+loop-n-preserved c =
+    let a = c.args in
+    (omega (arith, c.loop-n-test.true), holds-next c.loop-n.n (free a.sizes a.saved_stack.now a.saved_frames.now a.mask) c.loop-n.invariant.1 (sym c.free_at.ensures ∙ c.if-not-free_at.false))
 
 pub returns : goal.returns
 returns c =
     let a = c.args in
-    (omega (arith, c.loop-n-test.true), holds-next c.loop-n.n (free a.sizes a.saved_stack.now a.saved_frames.now a.mask) c.loop-n.invariant.1 (sym c.free-at.ensures ∙ not-false _ c.if1.false))
+    let e : c.loop-n.n ≡ a.sizes.rows = omega (arith, c.loop-n.invariant.0, c.loop-n-test.false) in
+    sym (subst (λ k. all_below k (free a.sizes a.saved_stack.now a.saved_frames.now a.mask) ≡ true) e c.loop-n.invariant.1)

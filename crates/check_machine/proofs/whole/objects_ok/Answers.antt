@@ -88,7 +88,7 @@ passed-3 : (c : Else-not-rows_ok) → Passed 3 c.before.before.before.before.bef
 passed-3 c = pass (passed-2 c.before.before.before.before) (rows_are c.before true c.if-not-rows_ok.false)
 
 pub overflow_mul-m : goal.overflow_mul-m
-overflow_mul-m c = omega (arith, c.requires.table, c.good)
+overflow_mul-m c = omega (arith, c.requires.table)
 
 pub returns-then-not-rest_ok : goal.returns-then-not-rest_ok
 returns-then-not-rest_ok c = stop (begun c.before.before.before) (sym c.rest_ok.ensures ∙ c.if-not-rest_ok.true)
@@ -117,7 +117,7 @@ pub returns-then-not-rows_ok : goal.returns-then-not-rows_ok
 returns-then-not-rows_ok c = stop (passed-2 c.before.before.before.before.before) (rows_are c.before.before false c.if-not-rows_ok.true)
 
 pub overflow_mul-sizes : goal.overflow_mul-sizes
-overflow_mul-sizes c = omega (arith, c.requires.on-stack, c.good)
+overflow_mul-sizes c = omega (arith, c.requires.on-stack)
 
 pub returns-then-not-rest_ok-2 : goal.returns-then-not-rest_ok-2
 returns-then-not-rest_ok-2 c = stop (passed-3 c.before.before.before.before) (sym c.rest_ok-2.ensures ∙ c.if-not-rest_ok-2.true)
@@ -126,7 +126,7 @@ pub overflow_mul-sizes-2 : goal.overflow_mul-sizes-2
 overflow_mul-sizes-2 c = omega (arith, c.requires.deep)
 
 pub overflow_mul-sizes-3 : goal.overflow_mul-sizes-3
-overflow_mul-sizes-3 c = omega (arith, c.requires.on-frames, c.good)
+overflow_mul-sizes-3 c = omega (arith, c.requires.on-frames)
 
 pub returns : goal.returns
 returns c = last (pass (passed-3 c.before.before.before.before.before.before.before) (sym c.rest_ok-2.ensures ∙ c.if-not-rest_ok-2.false)) c.rest_ok-3.ensures

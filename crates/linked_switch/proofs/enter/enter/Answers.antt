@@ -63,7 +63,7 @@ bounds-machine-0-2 c = let h = c.requires.words in omega (arith, h)
 pub overflow_add-height : goal.overflow_add-height
 overflow_add-height c =
     let n = c.regs_at-regs.ensures in
-    let h = (fit (at-fits c.requires) (omega (arith, c.good))).on-stack in record { fits = omega (arith, h, n, c.good) }
+    let h = (fit (at-fits c.requires) (omega arith)).on-stack in record { fits = omega (arith, h, n) }
 
 pub bounds-machine-1-3 : goal.bounds-machine-1-3
 bounds-machine-1-3 c = let h = c.requires.words in omega (arith, h)
@@ -71,13 +71,13 @@ bounds-machine-1-3 c = let h = c.requires.words in omega (arith, h)
 pub overflow_add-depth : goal.overflow_add-depth
 overflow_add-depth c =
     let n = c.frames_at-deep.ensures in
-    let h = (fit (at-fits c.requires) (omega (arith, c.good))).entering.on-frames in record { fits = omega (arith, h, n, c.good) }
+    let h = (fit (at-fits c.requires) (omega arith)).entering.on-frames in record { fits = omega (arith, h, n) }
 
 pub bounds-machine-2 : goal.bounds-machine-2
 bounds-machine-2 c = let h = c.requires.words in omega (arith, h)
 
 pub overflow_add-active : goal.overflow_add-active
-overflow_add-active c = let h = (sum (at-fits c.requires)).chain in record { fits = omega (arith, h, c.good) }
+overflow_add-active c = let h = (sum (at-fits c.requires)).chain in record { fits = omega (arith, h) }
 
 pub put_numbers-requires : goal.put_numbers-requires
 put_numbers-requires c = c.requires.words

@@ -3,6 +3,7 @@ use Rattle.model.specs.Coro.{abort_coros}
 use Rattle.memory_world.specs.Memory.{Beside, Rep}
 use Rattle.memory_world.specs.Lendings.{lent}
 use Rattle.coro_end.proofs.Ending.{sound-rowed}
+use Rattle.machine_added.proofs.Stopping.{stopped}
 use native.Mathlib.Omega.{arith}
 use Rattle.machine_added.proofs.stop.stop_run.Lts as lts
 use Rattle.machine_added.proofs.stop.stop_run.Reads as reads
@@ -38,3 +39,8 @@ clear_frames-requires c = (aborted c.before.before.before.before.before.before.b
 
 pub cut-requires : goal.cut-requires
 cut-requires c = let h = (aborted c.before.before.before.before.before.before.before.before.before.before.before.before.before.before.before.before).stack.within in (omega arith, h)
+
+pub returns : goal.returns
+returns c =
+    λ w b rep snd. stopped c.args.sizes _ c.abort_coros-did.result.machine _ _ w _ _
+    (c.abort_coros-did.ensures w (around c.before.before.before.before.before.before.before.before.before.before.before.before.before.before.before.before.before.before.before.before.before.before.before.before.before.before.before.before.before.before.before b) rep (sound-rowed w snd)) c.emptied.ensures c.clear_frames.ensures c.cut.ensures

@@ -19,7 +19,7 @@ pub put_at-requires : goal.put_at-requires
 put_at-requires c = let r = c.requires.room in let k = c.loop-i.invariant.long in let t = c.loop-i-test.true in omega arith
 
 pub overflow_add-i : goal.overflow_add-i
-overflow_add-i c = let t = c.loop-i-test.true in omega (arith, c.good)
+overflow_add-i c = let t = c.loop-i-test.true in omega arith
 
 pub loop-i-smaller : goal.loop-i-smaller
 loop-i-smaller c = let t = c.loop-i-test.true in omega arith
