@@ -1,5 +1,5 @@
 -- What is seen, noted and counted, case by case. Assumes nothing.
-use Rattle.std.proofs.Common.{◌≡◌, ℕ, suc, ◌+◌, ◌-◌, ◌%◌, ◌^◌, ◌<◌, ◌≤◌, Bool, true, false, not, ◌&&◌, eqb, ltb, leb, List, [], ◌∷◌, length, get_or, take, drop, sym, refl, ap, ◌∙◌, ap₂, arith, le-ltb, lt-ltb, eq-eqb, ne_eqb, le-leb}
+use Rattle.std.proofs.Common.{◌≡◌, ℕ, suc, ◌+◌, ◌-◌, ◌%◌, ◌^◌, ◌<◌, ◌≤◌, Bool, true, false, not, ◌&&◌, eqb, List, [], ◌∷◌, length, get_or, take, drop, sym, refl, ap, ◌∙◌, ap₂, le-ltb, lt-ltb, eq-eqb, ne_eqb, le-leb}
 use borrow.Author.Tests.{lt-leb, not-true, not-false}
 use types.Run.{OneOf, miss}
 use denote.Enum.Declared.{tag_of}
@@ -17,7 +17,7 @@ use Rattle.furnace.specs.declared.watch.Part.{Part}
 use Rattle.furnace.specs.declared.watch.Sent.{Sent}
 use Rattle.furnace.specs.declared.note.Seen.{Seen}
 use Rattle.furnace.specs.declared.note.Count.{Count}
-use Rattle.furnace.specs.Watch.{coro_in, floor_in, owner_in, top_base, own_base, own_words, part_of, no_sent, sent_by, arriving, note_of, note_fits, frames_fit, note, note_frames, noted_at, noted, at_most, noted_words, held_in, sent_to, one_more, frames_back, is_back, entering, counted}
+use Rattle.furnace.specs.Watch.{coro_in, floor_in, owner_in, top_base, own_base, part_of, no_sent, sent_by, arriving, note_of, note_fits, frames_fit, note, note_frames, noted_at, noted, at_most, noted_words, sent_to, one_more, frames_back, is_back, entering, counted}
 use Rattle.furnace.specs.contracts.watch.Part as Part'
 use Rattle.furnace.proofs.Words.{clamped}
 

@@ -1,21 +1,13 @@
 -- `back` meets its contract: the words compared so far are as they should be. Assumes nothing.
-use Rattle.std.proofs.Common.{◌+◌, ◌-◌, ◌≤◌, true, get_or, sym, refl, ap, ◌∙◌, subst, arith}
-use borrow.Author.Tests.{not-true, not-false}
+use Rattle.std.proofs.Common.{◌≡◌, ℕ, ◌+◌, ◌≤◌, get_or, sym, refl, ap, ◌∙◌, subst, arith}
 use Rattle.lists.proofs.Tests.{holds-next}
-use Rattle.furnace.specs.Watch.{word_back}
+use Rattle.furnace.specs.Watch.{at_most, word_back}
 use Rattle.furnace.proofs.Words.{at-most}
 use Rattle.furnace.proofs.Bodies.{other-many, one-differs, each_back}
-use Rattle.furnace.proofs.body.back.Lts as lts
-use Rattle.furnace.proofs.body.back.Reads as reads
-use Rattle.furnace.proofs.body.back.Tie as tie
 use Rattle.furnace.proofs.body.back.Goals as goal
 
-abbrev After-at_most-n : Type 0
-After-at_most-n = lts.After-at_most tie.the-claims reads.Pre reads.Post goal.invariant-loop-p goal.decreases-loop-p
-
-few : (c : After-at_most-n) → c.at-most.result ≤ 2
-few c =
-    subst (λ n. n ≤ 2) (sym c.at_most-n.ensures) (at-most 2 (get_or c.args.notes.now (c.args.at + 16) 0))
+few : (n m : ℕ) → n ≡ at_most 2 m → n ≤ 2
+few n m e = subst (λ k. k ≤ 2) (sym e) (at-most 2 m)
 
 pub returns-then-above-n : goal.returns-then-above-n
 returns-then-above-n c =
@@ -27,22 +19,22 @@ pub loop-p-init : goal.loop-p-init
 loop-p-init c = (omega arith, refl)
 
 pub overflow_mul-n : goal.overflow_mul-n
-overflow_mul-n c = omega (arith, few c.before.before.before.before)
+overflow_mul-n c = omega (arith, few c.at_most-n.result _ c.at_most-n.ensures)
 
 pub overflow_add-was : goal.overflow_add-was
 overflow_add-was c = omega (arith, c.requires, c.well_formed)
 
 pub overflow_add-was-in-loop-p : goal.overflow_add-was-in-loop-p
-overflow_add-was-in-loop-p c = omega (arith, few c.before.before.before.before.before, c.requires, c.well_formed, c.loop-p-test.true)
+overflow_add-was-in-loop-p c = omega (arith, few c.at_most-n.result _ c.at_most-n.ensures, c.requires, c.well_formed, c.loop-p-test.true)
 
 pub offset_bounds-notes-at-in-loop-p : goal.offset_bounds-notes-at-in-loop-p
-offset_bounds-notes-at-in-loop-p c = omega (arith, few c.before.before.before.before.before, c.requires, c.well_formed, c.loop-p-test.true)
+offset_bounds-notes-at-in-loop-p c = omega (arith, few c.at_most-n.result _ c.at_most-n.ensures, c.requires, c.well_formed, c.loop-p-test.true)
 
 pub bounds-notes-at-in-loop-p : goal.bounds-notes-at-in-loop-p
-bounds-notes-at-in-loop-p c = omega (arith, few c.before.before.before.before.before.before, c.requires, c.loop-p-test.true)
+bounds-notes-at-in-loop-p c = omega (arith, few c.at_most-n.result _ c.at_most-n.ensures, c.requires, c.loop-p-test.true)
 
 pub word_back-requires : goal.word_back-requires
-word_back-requires c = few c.before.before.before.before.before.before.before
+word_back-requires c = few c.at_most-n.result _ c.at_most-n.ensures
 
 pub returns-then-not-word_back : goal.returns-then-not-word_back
 returns-then-not-word_back c =
@@ -52,7 +44,7 @@ returns-then-not-word_back c =
     (let a = c.args in sym (c.word_back.ensures ∙ ap (word_back a.sent c.at_most-n.result a.from a.to c.loop-p.p (get_or a.notes.now (a.at + 17 + c.loop-p.p) 0)) c.field-is.ensures) ∙ c.if-not-word_back.true)
 
 pub overflow_add-p : goal.overflow_add-p
-overflow_add-p c = omega (arith, few c.before.before.before.before.before.before.before.before.before, c.loop-p-test.true)
+overflow_add-p c = omega (arith, few c.at_most-n.result _ c.at_most-n.ensures, c.loop-p-test.true)
 
 pub loop-p-smaller : goal.loop-p-smaller
 loop-p-smaller c = omega (arith, c.loop-p-test.true)

@@ -1,5 +1,4 @@
 -- `word_back` meets its contract: each kind of word by its test. Assumes nothing.
-use borrow.Author.Tests.{not-true, not-false}
 use Rattle.furnace.proofs.Bodies.{base_back, pc-back, other-back, unsent-back}
 use Rattle.furnace.proofs.body.word_back.Goals as goal
 

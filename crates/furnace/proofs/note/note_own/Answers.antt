@@ -1,4 +1,5 @@
 -- `note_own` meets its contract, arm by arm. Assumes nothing.
+use borrow.Enum.Refused.{opened}
 use Rattle.std.proofs.Common.{sym, ap, ◌∙◌}
 use Rattle.furnace.proofs.Watching.{no-waits}
 use Rattle.furnace.specs.Watch.{noted}
@@ -10,7 +11,7 @@ note_at-requires c = c.requires
 pub returns-in_default : goal.returns-in_default
 returns-in_default c =
     let a = c.args in
-    no-waits a.stack.now a.frames.now a.chain.now a.m a.notes.now a.p c.in_default.in_default-own.keys2
+    no-waits a.stack.now a.frames.now a.chain.now a.m a.notes.now a.p (opened c.in_default.in_default-own.keys2)
 
 pub returns : goal.returns
 returns c =

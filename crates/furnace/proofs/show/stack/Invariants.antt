@@ -1,5 +1,4 @@
 -- `stack` is safe. Assumes nothing.
-use Rattle.std.proofs.Common.{◌-◌}
 use Rattle.furnace.proofs.show.stack.Given as goal
 
 abbrev pub invariant-loop-i : goal.invariant-loop-i

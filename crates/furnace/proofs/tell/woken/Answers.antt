@@ -1,84 +1,41 @@
 -- `woken` meets its contract: the part of the stack that came back, the part of the note, the frames. Assumes nothing.
-use Rattle.std.proofs.Common.{◌≤◌, length, get_or, sym, subst, arith}
+use Rattle.std.proofs.Common.{◌≡◌, ℕ, ◌≤◌, List, length, get_or, sym, ap, ◌∙◌, subst, arith}
+use Rattle.furnace.specs.Watch.{at_most, noted_words, floor_in}
 use Rattle.furnace.proofs.Words.{at-most}
-use Rattle.furnace.proofs.tell.woken.Lts as lts
-use Rattle.furnace.proofs.tell.woken.Reads as reads
-use Rattle.furnace.proofs.tell.woken.Tie as tie
+use Rattle.furnace.proofs.Watching.{woken-is}
 use Rattle.furnace.proofs.tell.woken.Goals as goal
 
-abbrev Start : Type 0
-Start = lts.Start tie.the-claims reads.Pre reads.Post
-
-abbrev After-at_most-height : Type 0
-After-at_most-height = lts.After-at_most tie.the-claims reads.Pre reads.Post
-
-abbrev After-at_most-start : Type 0
-After-at_most-start = lts.After-at_most2 tie.the-claims reads.Pre reads.Post
-
--- `woken` meets its contract: the part of the stack that came back, the part of the note, the frames. Assumes nothing.
 -- the part of the stack begins where it ends or below, and ends within the stack
-begins : (c : After-at_most-start) → c.at-most2.result ≤ c.before.at-most.result
-begins c =
-    subst (λ n. n ≤ c.at_most-height.result) (sym c.at_most-start.ensures) (at-most c.at_most-height.result c.own_base-own.result)
-
-ends : (c : After-at_most-height) → c.at-most.result ≤ length c.before.before.before.before.before.before.before.args.stack.now
-ends c =
-    subst (λ n. n ≤ length c.args.stack.now) (sym c.at_most-height.ensures) (at-most (length c.args.stack.now) c.args.m.height)
+within : (n most m : ℕ) → n ≡ at_most most m → n ≤ most
+within n most m e = subst (λ k. k ≤ most) (sym e) (at-most most m)
 
 -- the part of the note has at most 13 words
-few : (c : Start) → c.args.n ≤ 13
-few c = subst (λ n. n ≤ 13) (sym c.requires.1) (at-most 13 (get_or c.args.notes.now c.args.at 0))
+few : (n : ℕ) (notes : List ℕ) (at : ℕ) → n ≡ noted_words notes at → n ≤ 13
+few n notes at e = within n 13 (get_or notes at 0) e
 
 pub offset_bounds-stack-start : goal.offset_bounds-stack-start
-offset_bounds-stack-start c = omega (arith, begins c.before, ends c.before.before, c.well_formed)
+offset_bounds-stack-start c =
+    omega (arith, within c.at_most-start.result c.at_most-height.result _ c.at_most-start.ensures, within c.at_most-height.result (length c.args.stack.now) _ c.at_most-height.ensures, c.well_formed)
 
 pub slice_bounds-back-count : goal.slice_bounds-back-count
-slice_bounds-back-count c = begins c.before
+slice_bounds-back-count c = within c.at_most-start.result c.at_most-height.result _ c.at_most-start.ensures
 
 pub slice_bounds-back-start : goal.slice_bounds-back-start
-slice_bounds-back-start c = begins c.before
+slice_bounds-back-start c = within c.at_most-start.result c.at_most-height.result _ c.at_most-start.ensures
 
 pub slice_bounds-back-end : goal.slice_bounds-back-end
-slice_bounds-back-end c = ends c.before.before
-
-pub overflow_add-first : goal.overflow_add-first
-overflow_add-first c = omega (arith, c.requires, few c.before.before.before.before.before.before.before.before.before.before)
+slice_bounds-back-end c = within c.at_most-height.result (length c.args.stack.now) _ c.at_most-height.ensures
 
 pub overflow_add-held : goal.overflow_add-held
-overflow_add-held c = omega (arith, c.requires, few c.before.before.before.before.before.before.before.before.before.before)
-
-pub offset_bounds-notes-first : goal.offset_bounds-notes-first
-offset_bounds-notes-first c = omega (arith, c.requires, few c.before.before.before.before.before.before.before.before.before.before)
-
-pub slice_bounds-held-count : goal.slice_bounds-held-count
-slice_bounds-held-count c = omega (arith, c.requires, few c.before.before.before.before.before.before.before.before.before.before)
-
-pub slice_bounds-held-start : goal.slice_bounds-held-start
-slice_bounds-held-start c = omega (arith, c.requires, few c.before.before.before.before.before.before.before.before.before.before)
+overflow_add-held c = omega (arith, c.requires, few c.args.n c.args.notes.now c.args.at c.requires.1)
 
 pub slice_bounds-held-end : goal.slice_bounds-held-end
-slice_bounds-held-end c = omega (arith, c.requires, few c.before.before.before.before.before.before.before.before.before.before)
+slice_bounds-held-end c = omega (arith, c.requires, few c.args.n c.args.notes.now c.args.at c.requires.1)
 
-pub overflow_add-place : goal.overflow_add-place
-overflow_add-place c = omega (arith, c.requires, few c.before.before.before.before.before.before.before.before.before.before.before)
-
-pub offset_bounds-notes-at : goal.offset_bounds-notes-at
-offset_bounds-notes-at c = omega (arith, c.requires, few c.before.before.before.before.before.before.before.before.before.before.before)
-
-pub bounds-notes-at : goal.bounds-notes-at
-bounds-notes-at c = omega (arith, c.requires, few c.before.before.before.before.before.before.before.before.before.before.before.before)
-
-pub overflow_add-from : goal.overflow_add-from
-overflow_add-from c = omega (arith, c.requires, few c.before.before.before.before.before.before.before.before.before.before.before.before)
-
-pub offset_bounds-notes-at-2 : goal.offset_bounds-notes-at-2
-offset_bounds-notes-at-2 c = omega (arith, c.requires, few c.before.before.before.before.before.before.before.before.before.before.before.before)
-
-pub bounds-notes-at-2 : goal.bounds-notes-at-2
-bounds-notes-at-2 c = omega (arith, c.requires, few c.before.before.before.before.before.before.before.before.before.before.before.before.before)
-
-pub back-bodies-requires : goal.back-bodies-requires
-back-bodies-requires c = omega (arith, c.requires)
-
-pub bodies-requires : goal.bodies-requires
-bodies-requires c = omega (arith, c.requires, few c.before.before.before.before.before.before.before.before.before.before.before.before.before.before.before.before.before.before.before.before.before.before.before.before.before.before.before.before.before.before.before.before.before.before.before.before.before.before.before, c.well_formed)
+pub returns : goal.returns
+returns c =
+    let a = c.args in
+    woken-is a.stack.now a.frames.now a.chain.now a.m a.sent a.notes.now a.at a.n a.count
+    c.own_base-own.result c.at_most-height.result c.at_most-start.result c.floor-low.result _ _ _ c.requires.1 c.own_base-own.ensures
+    c.at_most-height.ensures c.at_most-start.ensures
+    (c.floor-low.ensures ∙ ap (floor_in a.chain.now) c.last.ensures) c.woke-words.ensures c.back-bodies.ensures c.both-equal.ensures _ c.one_more.ensures

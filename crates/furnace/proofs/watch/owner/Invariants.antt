@@ -1,5 +1,5 @@
 -- `owner` meets its contract: those above do not own the frame. Assumes nothing.
-use Rattle.std.proofs.Common.{◌≡◌, ◌-◌}
+use Rattle.std.proofs.Common.{◌≡◌}
 use Rattle.furnace.specs.Watch.{owner_in}
 use Rattle.furnace.proofs.watch.owner.Given as goal
 

@@ -1,4 +1,5 @@
 -- `part_of` meets its contract, arm by arm. Assumes nothing.
+use borrow.Enum.Refused.{opened}
 use Rattle.furnace.proofs.Watching.{no_part}
 use Rattle.furnace.proofs.watch.part_of.Goals as goal
 
@@ -21,4 +22,4 @@ pub returns-in-HostEntry : goal.returns-in-HostEntry
 returns-in-HostEntry c = rw c.in-HostEntry.is
 
 pub returns-in_default : goal.returns-in_default
-returns-in_default c = no_part c.args.op c.in_default.in_default-own.keys7
+returns-in_default c = no_part c.args.op (opened c.in_default.in_default-own.keys7)
