@@ -15,6 +15,7 @@ sys.dont_write_bytecode = True
 sys.path.insert(0, str(Path(__file__).resolve().parent))
 import closure
 import drawing
+import edits
 
 ROOT = closure.ROOT
 TARGET = ROOT / "target"
@@ -123,85 +124,44 @@ def statements():
 # ---- the run
 
 def crates():
-    """The crates in the order of crates.txt, each with what the prover's log says of it."""
+    """The crates in the order of crates.txt, each with what `rt ci` printed of it: proved, the prover's verdict, its functions, what is assumed. A crate of which an
+    earlier run here proved the same files is kept: then there is no verdict of this run."""
+    log = TARGET / "ci.log"
+    text = log.read_text(errors="replace") if log.exists() else ""
+    # what stands between a crate's heading and the line that it is proved
+    told = {name: said for name, said in re.findall(r"^== (\w+)\n(.*?)^rt: \1 proved$", text, re.M | re.S)}
     found = []
     for row in (ROOT / "crates.txt").read_text().splitlines():
         if row.startswith("#") or ":" not in row:
             continue
-        name = row.split(":")[0]
-        log = TARGET / "log" / f"{name}.out"
-        text = log.read_text(errors="replace") if log.exists() else ""
-        # a crate that was not proved again, because nothing had changed: what its last proof said stands beside it, but not its time
-        before = log.with_suffix(".say")
-        if "proved (unchanged" in text and before.exists():
-            text += before.read_text(errors="replace")
-        verdict = re.search(r"^logic=proved .*$", text, re.M)
-        seconds = re.search(rf"^rt: {name} proved \((\d+) s\)", text, re.M)
+        name = row.split(":")[0].split()[0]
+        verdict = re.search(r"^logic=proved .*$", told.get(name, ""), re.M)
+        kept = re.search(rf"^rt: {name} is kept: ", text, re.M)
         functions = re.search(r" functions=(\d+)", verdict.group()) if verdict else None
-        axioms = re.findall(r"^axioms .*$", text, re.M)
-        found.append((name, verdict and verdict.group(), functions and int(functions.group(1)), seconds and int(seconds.group(1)), axioms))
+        found.append((name, verdict.group() if verdict else kept and "kept", functions and int(functions.group(1)), re.findall(r"^axioms .*$", told.get(name, ""), re.M)))
     return found
 
 
-def edits():
-    """Every must-fail edit: crate, name, what is wrong, and for each fact that it must break what the log says there."""
-    for path in sorted(ROOT.glob("crates/*/must-fail/*.edit")):
-        crate, name = path.parts[-3], path.stem
-        text = path.read_text()
-        told = " ".join(text[:text.index("refutes:")].split())
-        log = TARGET / "must-fail" / crate / name / ".log"
-        rows = log.read_text(errors="replace").splitlines() if log.exists() else None
-        facts = []
-        for fact in " ".join(re.findall(r"^refutes: (.*)$", text, re.M)).split():
-            fact = fact.replace("[+]", "+")
-            facts.append((fact, refused_at(fact, rows)))
-        yield crate, name, told, facts, rows is not None
-
-
-def refused_at(fact, rows):
-    """What the log says in the fact's own file, or at its own theorem: the first error that is about a fact, else the first that only says that the proof
-    names a place which is gone, or another than stands there; not that something else was refused (tests/edits judges alike). Line, name, text, and whether it is about a fact."""
-    unfit = None
-    for row in rows or []:
-        if "was not admitted" in row:
-            continue
-        file, _, name = fact.replace("[+]", "+").partition(":")
-        found = re.search(rf"({re.escape(file)}(?:/Proof)?\.antt):(\d+):\d+: error: `([^`]+)`: (.*)$", row)
-        if found and (not name or found.group(3) == name):
-            line, where, text = found.group(2), found.group(3), found.group(4)
-            if re.search(r"has no (?:field )?`|^record `\S+\.Lts\.|^expected type `(?:tie|\S+\.Lts)\.|one has `\S+\.Lts\.[^ `]+`(?:  \(expected\)|$)", text) or (not name and where.endswith("-spec")):
-                unfit = unfit or (line, where, text, False)
-            else:
-                return line, where, text, True
-        elif re.search(rf"^fn \S*{re.escape(file.removesuffix('/Proof').replace('/', '::'))}: no proof: .* `search` does not close" + (f".*`{name}`" if name else ""), row):
-            return None, name or "no proof", row.partition("no proof: ")[2], True
-    return unfit
-
-
-def changes_of(crate, name):
-    """What an edit changes: file, the line before, the line after."""
-    file, old = "", ""
-    for key, value in re.findall(r"^(file|old|new): (.*)$", (ROOT / "crates" / crate / "must-fail" / f"{name}.edit").read_text(), re.M):
-        if key == "file":
-            file = value
-        elif key == "old":
-            old = value.strip()
-        else:
-            yield file, old, value.strip()
+def wrong_edits():
+    """Every must-fail edit: crate, name, what is wrong, for each fact that it must break what its log says there (`tests/edits facts` leaves it), and what `rt ci` printed of it."""
+    said = edits.printed() or {}
+    for one in edits.edits():
+        rows = one.rows()
+        yield one, [(fact, edits.refused_at(one.crate, fact, rows)) for fact in one.facts], rows is not None, said.get((one.crate, one.name))
 
 
 def example(wrong):
     """One wrong answer that was refused at a fact: another sleeper's registers, at the entry; else the first of an edit's changes, with its first fact."""
     others = []
-    for crate, name, _, facts, _ in wrong:
-        for file, old, new in changes_of(crate, name):
+    for it, facts, _, _ in wrong:
+        for file, old, new in it.changes():
             for place, (fact, hit) in enumerate(facts):
                 if not (hit and hit[3]):
                     continue
-                if crate == "coro_enter" and "enter_stack(" in old and fact.startswith("enter/move_in"):
-                    return crate, name, (file, old, new), fact, hit
+                if it.crate == "coro_enter" and "enter_stack(" in old and fact.startswith("enter/move_in"):
+                    return it.crate, it.name, (file, old, new), fact, hit
                 if place == 0 and not others:
-                    others.append((crate, name, (file, old, new), fact, hit))
+                    others.append((it.crate, it.name, (file, old, new), fact, hit))
     return others[0] if others else None
 
 
@@ -317,7 +277,7 @@ def absent(text):
 
 
 def main():
-    proved, wrong, run = crates(), list(edits()), said()
+    proved, wrong, run = crates(), list(wrong_edits()), said()
     demands = list(statements())
     every, _ = closure.closure(*[one for _, one, _ in demands])
     known = {one.key for one in every}
@@ -330,14 +290,16 @@ def main():
 
     # what was run
     done = [one for one in proved if one[1]]
-    refused = sum(1 for _, _, _, facts, there in wrong if there and facts and all(found for _, found in facts))
-    exact = sum(1 for _, _, _, facts, there in wrong if there and facts and all(found and found[3] for _, found in facts))
-    logs = sum(1 for one in wrong if one[4])
+    refused = sum(1 for *_, said_of in wrong if said_of and said_of[0] == "refused, as it must be")
+    exact = sum(1 for _, facts, there, _ in wrong if there and facts and all(found and found[3] for _, found in facts))
+    logs = sum(1 for _, _, there, _ in wrong if there)
     tiles = [tile(f"{len(done)} of {len(proved)}", "crates proved", "good" if len(done) == len(proved) else "bad")]
+    if kept := sum(1 for one in done if one[1] == "kept"):
+        tiles.append(tile(f"{kept}", "of them kept from an earlier run of the same files"))
+    if any(one[2] for one in done):
+        tiles.append(tile(f"{sum(one[2] or 0 for one in done):,}", "functions proved in this run to meet their contracts"))
     if done:
-        tiles.append(tile(f"{sum(one[2] or 0 for one in done):,}", "functions proved equal to their contracts"))
-    if logs:
-        tiles.append(tile(f"{refused} of {len(wrong)}", f"wrong edits refused where they say, {exact} of them wholly at facts", "good" if refused == len(wrong) else "bad"))
+        tiles.append(tile(f"{refused} of {len(wrong)}", "wrong edits refused" + (f", {exact} of the {logs} that were looked up wholly at facts" if logs else ""), "good" if refused == len(wrong) else "bad"))
     if run:
         tiles.append(tile(escape(run[2]), "the last line of <code>./test</code>", "good" if run[2].endswith(" 0 failed") else "bad"))
     head = f"<p class=faint>Made from the sources at commit <code>{commit}</code>{' with files changed since' if changed else ''}"
@@ -391,43 +353,42 @@ def main():
     parts.append("<h3>What was proved, and what was tested</h3>" + html_table(table_after("docs/ASSURANCE.md", "## What is proved, and what is tested")))
     parts.append("<h3>What the prover's logs say is assumed</h3>")
     if done:
-        rows = [["", "assumed"]] + [[f"`{name}`", "; ".join(axioms)] for name, _, _, _, axioms in proved if axioms]
+        rows = [["", "assumed"]] + [[f"`{name}`", "; ".join(axioms)] for name, _, _, axioms in proved if axioms]
         report = TARGET / "staticlib" / "linked_calls.report"
         library = report.read_text() if report.exists() else ""
         if verdict := re.search(r"^logic=proved .*$", library, re.M):
             rows.append(["the static library", "; ".join(re.findall(r"^axioms .*$", library, re.M)) or "nothing: `" + verdict.group() + "`"])
-        none = [name for name, verdict, _, _, axioms in proved if verdict and not axioms and "foreign=" not in verdict]
+        none = [name for name, verdict, _, axioms in proved if verdict and verdict != "kept" and not axioms and "foreign=" not in verdict]
         parts.append("<p>A crate's log names the functions that are not Rattle's and that it declares (<code>foreign=</code>), a program's and a static library's those that it reaches "
-                     f"(<code>axioms</code>): their contracts are taken as they stand. {len(none)} crates of {len(done)} have none.</p>")
+                     f"(<code>axioms</code>): their contracts are taken as they stand. {len(none)} of the {sum(1 for one in done if one[1] != 'kept')} crates that were proved in this run have none.</p>")
         if taken := of_c(TARGET / "staticlib" / "libhumdelzi.a"):
             rows.append(["the static library, of C", taken])
         if len(rows) > 1:
             parts.append(html_table(rows))
         if kit := printed("rt", "version"):
             parts.append(f"<p>The toolchain here is <code>{escape(kit)}</code>; its logic's sum stands in each verdict.</p>")
-        parts.append("<p class=faint>The line of the verdict, as the logs have it, without counts:</p><pre>" + "\n".join(sorted({escape(re.sub(r"functions=\d+ (axioms=\d+ )?", "", one[1])) for one in done})) + "</pre>")
+        parts.append("<p class=faint>The line of the verdict, as the logs have it, without counts:</p><pre>" + "\n".join(sorted({escape(re.sub(r"functions=\d+ (axioms=\d+ )?", "", one[1])) for one in done if one[1] != "kept"})) + "</pre>")
     else:
-        parts.append(absent("what is assumed, as target/log is not there"))
+        parts.append(absent("what is assumed, as target/ci.log is not there"))
 
     section("calls", "The calls")
     parts.append(html_table(table_after("docs/STATEMENTS.md", "# Each call"), kind=" class=calls"))
 
     section("wrong", "Wrong edits, and what refused them")
-    if logs:
-        parts.append(shown_example(example(wrong)))
-        parts.append(f"<p>{len(wrong)} edits of code, definitions and statements; each names the proofs that it must break. Beside each stands the fact in it that does not hold any more. Where the code is another, a proof may only fail to fit: then it is said that it names a place that is gone, which shows less.</p>")
-        by = {}
-        for one in wrong:
-            by.setdefault(one[0], []).append(one)
-        for crate, found in by.items():
-            body = []
-            for _, name, told, facts, there in found:
-                cells = "".join(f"<tr><td><code>{escape(fact)}</code></td><td>" + (f"<code>{escape(hit[1])}</code>{f', line {hit[0]}' if hit[0] else ''}: {'' if hit[3] else 'the proof names a place that is gone: '}<span class=faint>{escape(hit[2][:180])}</span>" if hit else
-                                "<span class=bad>not shown by the log</span>" if there else "<span class=faint>no log</span>") + "</td></tr>" for fact, hit in facts)
-                body.append(f"<h3>{escape(name)}</h3><p>{inline(told)}</p><table class=facts><thead><tr><th>proof</th><th>fact that refused it</th></tr></thead><tbody>{cells}</tbody></table>")
-            parts.append(f"<details><summary><code>{crate}</code>: {len(found)} edits</summary><div>{''.join(body)}</div></details>")
-    else:
-        parts.append(absent(f"what refused the {len(wrong)} wrong edits, as target/must-fail is not there"))
+    parts.append(shown_example(example(wrong)))
+    parts.append(f"<p>{len(wrong)} edits of code, definitions and statements; each names the facts that it must break. Beside each edit stands what <code>rt ci</code> printed of it: the first thing that does not hold any more. "
+                 "Where <code>tests/edits facts</code> was run, each fact has beside it what refused it there. Where the code is another, a proof may only fail to fit: then it is said that it names a place that is gone, which shows less.</p>")
+    by = {}
+    for one in wrong:
+        by.setdefault(one[0].crate, []).append(one)
+    for crate, found in by.items():
+        body = []
+        for it, facts, there, told in found:
+            cells = "".join(f"<tr><td><code>{escape(fact)}</code></td><td>" + (f"<code>{escape(hit[1])}</code>{f', line {hit[0]}' if hit[0] else ''}: {'' if hit[3] else 'the proof names a place that is gone: '}<span class=faint>{escape(hit[2][:180])}</span>" if hit else
+                            "<span class=bad>not shown by the log</span>" if there else "<span class=faint>not looked up</span>") + "</td></tr>" for fact, hit in facts)
+            shown = f"<p>{'' if told[0] == 'refused, as it must be' else '<span class=bad>'}{escape(' '.join(told))}{'' if told[0] == 'refused, as it must be' else '</span>'}</p>" if told else "<p class=faint>Not tried in this run.</p>"
+            body.append(f"<h3>{escape(it.name)}</h3><p>{inline(it.told)}</p>{shown}<table class=facts><thead><tr><th>fact</th><th>what refused it</th></tr></thead><tbody>{cells}</tbody></table>")
+        parts.append(f"<details><summary><code>{crate}</code>: {len(found)} edits</summary><div>{''.join(body)}</div></details>")
 
     section("machines", "Wrong machines, wrong definitions")
     rows = [["file", "refused by", "the machine"]] + [[f"`{file}`", f"`{name}`", f"{told} `{text}`".strip()] for file, name, told, text in machines()]
@@ -449,17 +410,6 @@ def main():
             parts.append(f"<details><summary><code>{escape(name)}</code>: all that it printed</summary><div><pre>{escape(chr(10).join(shown))}</pre></div></details>")
     else:
         parts.append(absent("what this run counted, as target/test.log is not there: ./test leaves it"))
-
-    section("times", "Times")
-    timed = [one for one in proved if one[3] is not None]
-    if timed:
-        most = max(one[3] for one in timed)
-        rows = "".join(f"<tr><td><code>{name}</code></td><td class=n>{functions or ''}</td><td class=n>{seconds} s</td><td style='width:50%'><span class=bar style='width:{100 * seconds / most:.1f}%'></span></td></tr>"
-                       for name, _, functions, seconds, _ in timed)
-        parts.append(f"<table><thead><tr><th>crate</th><th class=n>functions</th><th class=n>proved in</th><th></th></tr></thead><tbody>{rows}"
-                     f"<tr><td>all</td><td class=n>{sum(one[2] or 0 for one in timed):,}</td><td class=n>{sum(one[3] for one in timed):,} s</td><td></td></tr></tbody></table>")
-    else:
-        parts.append(absent("the times, as target/log is not there"))
 
     section("definitions", "The definitions")
     parts.append(f"<p>All {len(every):,} that the demands rest on, {closure.lines(every):,} lines, by file. Each name is a link.</p>")
@@ -484,11 +434,11 @@ addEventListener('hashchange', show); show();
 """
     TARGET.mkdir(exist_ok=True)
     (TARGET / "evidence.html").write_text(page)
-    for crate, name, _, facts, there in wrong:
+    for it, facts, there, _ in wrong:
         less = [fact for fact, found in facts if not (found and found[3])]
         if there and less:
-            print(f"evidence: {crate}/{name}: not shown at a fact: {' '.join(less)}")
-    print(f"evidence: target/evidence.html, {len(page) // 1024} kB: {len(done)} of {len(proved)} crates proved, {refused} of {len(wrong)} wrong edits refused in the logs that are there ({logs}),"
+            print(f"evidence: {it.crate}/{it.name}: not shown at a fact: {' '.join(less)}")
+    print(f"evidence: target/evidence.html, {len(page) // 1024} kB: {len(done)} of {len(proved)} crates proved, {refused} of {len(wrong)} wrong edits refused, {exact} of {logs} that were looked up at facts,"
           f" {len(every)} definitions, {'a run' if run else 'no run'} of ./test")
     if stale:
         print("evidence: docs/wake.svg is not what the library does; `./evidence wake` writes it")
