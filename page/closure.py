@@ -58,7 +58,7 @@ class File:
             self.aliases[alias] = module
         for one in filter(None, (names or "").split(",")):
             name, _, other = one.strip().partition(" as ")
-            (self.passed if public else self.uses)[(other or name).strip("_")] = (module, name)
+            (self.passed if public else self.uses)[(other or name).strip("◌")] = (module, name)
         return True
 
     def read_antt(self, rows):
@@ -133,13 +133,13 @@ def crate_of(path):
 
 def from_module(module, name, here):
     """The declaration that a `use` line names, or None for one of the toolchain's."""
-    if found := re.match(r"Rattle·(\w+?)(?:·specs)?\.specs\.(.+)$", module):
-        crate, rest = found.groups()
+    if found := re.match(r"Rattle\.(\w+)\.(specs|proofs)\.(.+)$", module):
+        crate, folder, rest = found.groups()
         if rest.startswith("declared."):
             parts = rest.split(".")
             file = file_of(Path("crates", crate, "src", parts[1] + ".rt"))
             return file and file.declared.get(parts[2])
-        file = file_of(Path("crates", crate, "specs", rest.replace(".", "/") + ".antt"))
+        file = file_of(Path("crates", crate, folder, rest.replace(".", "/") + ".antt"))
         if file and name in file.declared:
             return file.declared[name]
         if file and name in file.inner:
@@ -175,7 +175,7 @@ def words_of(file, row):
     """The words of a row of code, each with where it begins."""
     for token in WORD.finditer(re.sub(r"--.*$|//.*$", "", row)):
         if file.path.suffix == ".rt":
-            for part in re.finditer(r"[^:<>&|'\"`⌜⌝«»]+", token.group()):
+            for part in re.finditer(r"[^:<>&|'\"`«»]+", token.group()):
                 yield token.start() + part.start(), part.group().strip(".")
         elif not token.group().startswith("."):
             yield token.start(), token.group()
