@@ -38,7 +38,7 @@ class File:
     """A file of specs/ or src/: what it declares, and where each name that it uses comes from."""
 
     def __init__(self, path):
-        self.path, self.declared, self.inner, self.uses, self.aliases, self.passed = path, {}, {}, {}, {}, {}
+        self.path, self.declared, self.inner, self.uses, self.aliases, self.passed, self.ghost = path, {}, {}, {}, {}, {}, {}
         text = (ROOT / path).read_text()
         (self.read_antt if path.suffix == ".antt" else self.read_rt)(text.splitlines())
 
@@ -86,6 +86,9 @@ class File:
                 open_[3].append(row)
 
     def read_rt(self, rows):
+        for module, names in re.findall(r"^(?:pub )?use ([A-Za-z0-9_:]+)::\{([^{}]*)\};", "\n".join(rows), re.M):
+            for one in filter(None, map(str.strip, names.split(","))):
+                self.uses[one] = (f"{module}::{one}", one)
         at = 0
         comment = []
         while at < len(rows):
@@ -93,8 +96,9 @@ class File:
             if found := re.match(r"(?:ghost )?use (\S+?)(?:\.\{(.*)\})?;$", row):
                 module, names = found.groups()
                 if names is not None:
+                    # a clause means what its ghost imports name, though a function may have the same name
                     for one in names.split(","):
-                        self.uses[one.strip()] = (module, one.strip())
+                        (self.ghost if row.startswith("ghost ") else self.uses)[one.strip()] = (module, one.strip())
                 elif "::" in module:
                     self.uses[module.split("::")[-1]] = (module, module.split("::")[-1])
             if row.startswith("//"):
@@ -160,6 +164,9 @@ def resolve(file, word):
     head, _, tail = word.partition(".")
     if head in file.aliases and tail:
         return from_module(file.aliases[head], tail.split(".")[0], file), None
+    if head in file.ghost:
+        one = from_module(*file.ghost[head], file)
+        return one, None if one else ".".join(file.ghost[head])
     if head in file.declared:
         return file.declared[head], None
     if head in file.inner:

@@ -190,7 +190,7 @@ def machines():
                 record, comment = found.group(1), []
             elif found := re.match(r"\s*-- (.*)", row):
                 comment.append(found.group(1))
-            elif found := re.match(r"  pub ([a-z0-9-]+) : (?:\w*Refuted\w* .*\(λ [a-z ]+\. \w+(?: \.[\w-]+)+\) (.*)|(.*) → ⊥)$", row):
+            elif found := re.match(r"  pub ([a-z0-9_-]+) : (?:\w*Refuted\w* .*\(λ [a-z ]+\. \w+(?:\.[\w-]+)+\) (.*)|(.*) → ⊥)$", row):
                 name, engine, statement = found.groups()
                 yield path.name, f"{record.removeprefix('Refuted')}.{name}", " ".join(comment), engine or statement
                 comment = []

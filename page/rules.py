@@ -212,7 +212,7 @@ def check_layout():
     for row in (ROOT / "crates.txt").read_text().splitlines():
         row = row.split("#")[0]
         if ":" in row:
-            uses[row.split(":")[0].strip()] = set(row.split(":")[1].split())
+            uses[row.split(":")[0].split()[0]] = set(row.split(":")[1].split())
     drawn = {}
     for row in text.split("```")[1].splitlines():
         for chain in re.split(r"\s{2,}", row[15:].strip()):
@@ -281,13 +281,13 @@ def check_fields():
         for row in path.read_text().splitlines():
             if found := re.match(r"\s*(?:pub )?(?:record|data) (\S+)", row):
                 record = found.group(1)
-            elif record and (found := re.match(r"\s+(?:pub )?([A-Za-z0-9-]+) :", row)):
+            elif record and (found := re.match(r"\s+(?:pub )?([A-Za-z0-9_-]+) :", row)):
                 known.setdefault(record, set()).add(found.group(1))
-            elif found := re.match(r"(?:(?:abbrev|unfoldable|pub) )*([A-Za-z0-9-]+) :", row):
+            elif found := re.match(r"(?:(?:abbrev|unfoldable|pub) )*([A-Za-z0-9_-]+) :", row):
                 known.setdefault(path.stem, set()).add(found.group(1))
     count = 0
     for page in PAPERS:
-        for record, field in set(re.findall(r"`([A-Z][A-Za-z0-9-]*)\.([a-z][A-Za-z0-9-]*)`", page.read_text())) - {(one, "antt") for one in known}:
+        for record, field in set(re.findall(r"`([A-Z][A-Za-z0-9-]*)\.([a-z][A-Za-z0-9_-]*)`", page.read_text())) - {(one, "antt") for one in known}:
             count += 1
             if field not in known.get(record, ()) and field not in ("antt", "md", "rs", "toml"):
                 say(f"{page.relative_to(ROOT)}: no {record}.{field}")
@@ -299,7 +299,7 @@ def check_cited():
     count = 0
     for path in [*ROOT.glob("crates/*/specs/**/*.antt"), *ROOT.glob("crates/*/src/**/*.rt")]:
         count += 1
-        if found := re.search(r"^(?:pub |ghost )?use Rattle·\S*\bproofs\b.*$", path.read_text(), re.M):
+        if found := re.search(r"^(?:pub |ghost )?use Rattle\.(?!std\.)\w+\.proofs\..*$", path.read_text(), re.M):
             say(f"{path.relative_to(ROOT)} cites proofs/: {found.group()}")
     print(f"rules: {count} files of specs/ and src/ cite none of proofs/" if not failed else f"rules: {count} files of specs/ and src/")
 
@@ -307,7 +307,7 @@ def check_cited():
 def wrong_machines():
     """The refutations of claims_model/specs/Wrong*.antt: the fields that say of a wrong machine that it has not a record, or not a field of one. One machine may stand in several."""
     text = "".join(path.read_text() for path in sorted(ROOT.glob("crates/claims_model/specs/Wrong*.antt")))
-    return re.findall(r"^  pub ([a-z0-9-]+) : (?:.* → ⊥|\w*Refuted\w* .*)$", text, re.M)
+    return re.findall(r"^  pub ([a-z0-9_-]+) : (?:.* → ⊥|\w*Refuted\w* .*)$", text, re.M)
 
 
 def check_edits():
@@ -397,29 +397,41 @@ def check_counts(mend):
 
 
 def check_linked():
-    """For each linked function that changes a word, `leftBy` of claims_linked/specs/Linked.antt has the definition that its contract cites."""
-    rows = re.findall(r"^leftBy h \(bvm-(\S+) .*?\) = (.*)$", (ROOT / "crates/claims_linked/specs/Linked.antt").read_text(), re.M)
-    contracts = {}
+    """For each linked function that changes a word, `left_by` of claims_linked/specs/Linked.antt has the definition that its contract cites. And each export
+    of a crate NAME_c has the parameters and the clauses of the function of its name that it calls."""
+    rows = re.findall(r"^left_by h \(bvm-(\S+) .*?\) = (.*)$", (ROOT / "crates/claims_linked/specs/Linked.antt").read_text(), re.M)
+    contracts, whole = {}, {}
     for path in [*ROOT.glob("crates/linked_calls/src/*.rt"), *ROOT.glob("crates/linked_switch/src/*.rt"), *ROOT.glob("crates/linked_batch/src/*.rt")]:
-        for name, text in re.findall(r"pub extern \"C\" fn bvm_(\w+)(.*?)^\{", path.read_text(), re.M | re.S):
+        for name, text in re.findall(r"pub fn bvm_(\w+)(.*?)^\{", path.read_text(), re.M | re.S):
             contracts[name] = text[text.index("ensures"):]
+            whole[name] = " ".join(text.split())
+    exports = {}
+    for path in sorted(ROOT.glob("crates/linked_*_c/src/lib.rt")):
+        for name, text, body in re.findall(r"pub extern \"C\" fn bvm_(\w+)(.*?)^\{(.*?)^\}", path.read_text(), re.M | re.S):
+            exports[name] = " ".join(text.split())
+            called = re.fullmatch(r"\s*\w+::\w+::bvm_(\w+)\(([\w\s,]*)\)\s*", body)
+            if not called or called[1] != name or re.findall(r"\w+", called[2]) != re.findall(r"(?:^|[(,])\s*(\w+): ", text.partition(")")[0]):
+                say(f"{path.relative_to(ROOT)}: bvm_{name} is not the call of the library's function with its own arguments")
+    for name in whole.keys() | exports.keys():
+        if whole.get(name) != exports.get(name):
+            say(f"bvm_{name}: the export has not the parameters and the clauses of the library's function")
     linked = {"switch": ("try_resume_unchecked", "try_yield_unchecked"), "run": ("run", "batch")}
-    # by way of a record, whose equations are the definition's; what keptIn leaves is doWords written back over the host's words
-    records = {"grant": ("linked_calls/specs/Host.antt", "Granted", "callIn"), "switch": ("linked_switch/specs/Switch.antt", "Switched", "keptIn")}
+    # by way of a record, whose equations are the definition's; what kept_in leaves is do_words written back over the host's words
+    records = {"grant": ("linked_calls/specs/Host.antt", "Granted", "call_in"), "switch": ("linked_switch/specs/Switch.antt", "Switched", "kept_in")}
     if len(rows) < 6:
-        say("crates/claims_linked/specs/Linked.antt: leftBy has lost its rows")
+        say("crates/claims_linked/specs/Linked.antt: left_by has lost its rows")
     for name, right in rows:
-        definition = re.search(r"(?:\w+In|runHost|doWords)\b", right).group()
+        definition = re.search(r"(?:\w+_in|run_host|do_words)\b", right).group()
         if name in records:
             file, record, within = records[name]
             body = re.search(rf"^pub record {record} .*?(?=^\S|\Z)", (ROOT / "crates" / file).read_text(), re.M | re.S)
-            if not body or within not in body.group() or definition not in (within, "doWords"):
+            if not body or within not in body.group() or definition not in (within, "do_words"):
                 say(f"crates/{file}: {record} does not say {within}")
             definition = record
         for function in linked.get(name, (name.replace("-", "_"),)):
             if not re.search(rf"\b{definition}\b", contracts.get(function, "")):
                 say(f"bvm_{function} has not the definition that Linked.antt gives it: {definition}")
-    print(f"rules: {len(rows)} linked functions have the contract that Linked.antt says")
+    print(f"rules: {len(rows)} linked functions have the contract that Linked.antt says, {len(exports)} exports that of the function that they call")
 
 
 mending = sys.argv[1:] == ["mend"]
