@@ -1,6 +1,5 @@
 -- `coro_row` meets its contract, by what the coroutine's test and its state say. Assumes nothing.
 use mathlib.Core.Path.{sym, ◌∙◌}
-use borrow.Author.Tests.{not-true, not-false}
 use Rattle.memory_world.specs.Decode.{setup_of}
 use Rattle.check_tables.specs.Queue.{in_set}
 use Rattle.check_machine.proofs.Coros.{bad-coro, no-row, not-chained, chained-row, saved-frames-row}

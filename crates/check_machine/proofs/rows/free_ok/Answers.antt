@@ -4,7 +4,6 @@ use mathlib.Core.Bool.{Bool, true, ◌||◌}
 use mathlib.Core.List.{List}
 use Prim.Native.Nat.{ℕ, ◌-◌}
 use native.Mathlib.Omega.{arith}
-use borrow.Author.Tests.{not-true, not-false}
 use Rattle.lists.specs.Tests.{all_below}
 use Rattle.lists.proofs.Tests.{fails-at, holds-next}
 use Rattle.memory_world.specs.declared.machine.Sizes.{Sizes}

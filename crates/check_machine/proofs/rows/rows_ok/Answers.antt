@@ -2,7 +2,6 @@
 use mathlib.Core.Path.{sym, ◌∙◌}
 use mathlib.Core.Bool.{Bool}
 use native.Mathlib.Omega.{arith}
-use borrow.Author.Tests.{not-true, not-false}
 use Rattle.memory_world.specs.Decode.{setup_of}
 use Rattle.check_tables.specs.Queue.{in_set}
 use Rattle.check_machine.specs.Rows.{rows_test}

@@ -4,7 +4,7 @@ use mathlib.Core.Bool.{true, false, false≢true, ◌||◌}
 use mathlib.Core.List.{List}
 use Prim.Native.Nat.{ℕ, ◌*◌, ◌-◌, ◌<◌}
 use native.Mathlib.Omega.{arith}
-use borrow.Author.Tests.{not-true, not-false}
+use borrow.Author.Tests.{not-false}
 use lib.Dec.{eqb}
 use lib.ListN.{length-set, get_or}
 use Rattle.lists.proofs.Tables.{length-chunks}

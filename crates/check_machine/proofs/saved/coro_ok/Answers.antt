@@ -3,7 +3,7 @@ use mathlib.Core.Path.{sym, ◌∙◌}
 use native.Mathlib.Omega.{arith}
 use Prim.Native.Nat.{◌*◌}
 use lib.ListN.{length}
-use borrow.Author.Tests.{not-true, not-false, lt-ltb, le-ltb}
+use borrow.Author.Tests.{lt-ltb, le-ltb}
 use Rattle.memory_world.specs.Decode.{setup_of}
 use Rattle.check_tables.proofs.Bools.{three-1, three-2, three-3}
 use Rattle.check_machine.proofs.Coros.{row_inside, sizes-stop, finished, live, frames-few}

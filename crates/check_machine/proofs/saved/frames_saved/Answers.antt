@@ -1,6 +1,5 @@
 -- `frames_saved` meets its contract: the first test fails the whole, the second decides it. Assumes nothing.
 use mathlib.Core.Path.{refl, sym, ◌∙◌}
-use borrow.Author.Tests.{not-true, not-false}
 use Rattle.memory_world.specs.Decode.{setup_of}
 use Rattle.check_tables.proofs.Bools.{first-fails, second-decides}
 use Rattle.check_machine.proofs.Waiting.{some-frame}

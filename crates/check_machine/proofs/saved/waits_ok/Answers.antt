@@ -1,7 +1,6 @@
 -- `waits_ok` meets its contract. Assumes nothing.
 use mathlib.Core.Path.{sym, ap, ◌∙◌, subst}
 use Prim.Native.Nat.{ℕ, ◌-◌, ◌≤◌, ◌<◌}
-use borrow.Author.Tests.{not-true, not-false}
 use lib.Dec.{ltb}
 use Rattle.check_machine.proofs.Waiting.{not-waiting, waits-far, waits-near}
 use Rattle.check_machine.proofs.saved.waits_ok.Goals as goal

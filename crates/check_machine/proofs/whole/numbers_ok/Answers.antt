@@ -3,7 +3,7 @@ use mathlib.Core.Path.{refl, sym, ◌∙◌}
 use mathlib.Core.Bool.{Bool, true}
 use mathlib.Core.List.{List, [], ◌∷◌}
 use Prim.Native.Nat.{ℕ}
-use borrow.Author.Tests.{not-true, not-false}
+use borrow.Author.Tests.{not-false}
 use Rattle.check_tables.specs.Room.{room_test, counts_test}
 use Rattle.check_tables.proofs.Bools.{Left, upto, from, pass, stop, last}
 use Rattle.check_machine.specs.Numbers.{outcome_test, fuel_test}

@@ -4,7 +4,7 @@ use mathlib.Core.Bool.{Bool, true, false, ◌&&◌}
 use mathlib.Core.List.{List, [], ◌∷◌}
 use Prim.Native.Nat.{ℕ, ◌*◌}
 use native.Mathlib.Omega.{arith}
-use borrow.Author.Tests.{not-true, not-false}
+use borrow.Author.Tests.{not-false}
 use Rattle.heap.specs.Heap.{slots_of}
 use Rattle.memory_world.specs.Decode.{setup_of}
 use Rattle.memory_sound.specs.Words.{rest_ok}
@@ -61,10 +61,10 @@ tests z = rest_ok z.args.slots.now (z.args.m.count * 20) ∷ run z ∷ (ranges z
 
 -- the first n have passed
 abbrev Passed : ℕ → Start → Type 0
-Passed n z = let a = z.args in Left (from n (tests z)) (objects_test a.sizes (setup_of a.setup.now) a.chain.now a.slots.now a.saved-stack.now a.saved-frames.now a.m)
+Passed n z = let a = z.args in Left (from n (tests z)) (objects_test a.sizes (setup_of a.setup.now) a.chain.now a.slots.now a.saved_stack.now a.saved_frames.now a.m)
 
 -- words have 64 bits, so the ranges are the rule
-begun : (c : After-struct_known-1) → Passed 0 c
+begun : (c : After-struct_known-1) → Passed 0 c.before.before.before.before.before.before
 begun c =
     record {
       is = made-later _ (run c.before.before.before.before.before.before) (ranges c.before.before.before.before.before.before) (rows c.before.before.before.before.before.before) _ _
@@ -72,20 +72,20 @@ begun c =
     }
 
 -- the set has the chain's slots
-rows_are : (c : After-rows_ok) (t : Bool) → c.rows_ok.result ≡ t → (ranges c.before.before.before.before.before.before.before.before.before.before.before.before.before.before && rows c.before.before.before.before.before.before.before.before.before.before.before.before.before.before) ≡ t
-rows_are c t e =
+rows_are : (c : After-rows_ok) → c.running-r.result.good ≡ true → (t : Bool) → c.rows_ok.result ≡ t → (ranges c.before.before.before.before.before.before.before.before.before.before.before.before.before.before && rows c.before.before.before.before.before.before.before.before.before.before.before.before.before.before) ≡ t
+rows_are c g t e =
     let same : in_set c.running-r.result.set ≡ chained_at c.args.chain.now c.args.m.active =
-    λ j x. c.running-r.ensures.set c.if-not-r.false x j in
+    λ j x. c.running-r.ensures.set g x j in
     sym (ap (λ (f : ℕ → Bool). ranges c.before.before.before.before.before.before.before.before.before.before.before.before.before.before && rows-by c.before.before.before.before.before.before.before.before.before.before.before.before.before.before f) same) ∙ sym c.rows_ok.ensures ∙ e
 
-passed-1 : (c : Else-not-rest_ok) → Passed 1 c.before.before
+passed-1 : (c : Else-not-rest_ok) → Passed 1 c.before.before.before.before.before.before.before.before
 passed-1 c = pass (begun c.before.before) (sym c.rest_ok.ensures ∙ c.if-not-rest_ok.false)
 
-passed-2 : (c : Else-not-r) → Passed 2 c.before.before.before.before.before
-passed-2 c = pass (passed-1 c.before.before.before) (sym c.running-r.ensures.good ∙ c.if-not-r.false)
+passed-2 : (c : Else-not-r) → c.running-r.result.good ≡ true → Passed 2 c.before.before.before.before.before.before.before.before.before.before.before
+passed-2 c g = pass (passed-1 c.before.before.before) (sym c.running-r.ensures.good ∙ g)
 
-passed-3 : (c : Else-not-rows_ok) → Passed 3 c.before.before.before.before.before.before.before.before.before
-passed-3 c = pass (passed-2 c.before.before.before.before) (rows_are c.before true c.if-not-rows_ok.false)
+passed-3 : (c : Else-not-rows_ok) → c.running-r.result.good ≡ true → Passed 3 c.before.before.before.before.before.before.before.before.before.before.before.before.before.before.before
+passed-3 c g = pass (passed-2 c.before.before.before.before g) (rows_are c.before g true c.if-not-rows_ok.false)
 
 pub overflow_mul-m : goal.overflow_mul-m
 overflow_mul-m c = omega (arith, c.requires.table)
@@ -114,13 +114,13 @@ rows_ok-requires c =
     }
 
 pub returns-then-not-rows_ok : goal.returns-then-not-rows_ok
-returns-then-not-rows_ok c = stop (passed-2 c.before.before.before.before.before) (rows_are c.before.before false c.if-not-rows_ok.true)
+returns-then-not-rows_ok c = stop (passed-2 c.before.before.before.before.before c.if-not-r.false) (rows_are c.before.before c.if-not-r.false false c.if-not-rows_ok.true)
 
 pub overflow_mul-sizes : goal.overflow_mul-sizes
 overflow_mul-sizes c = omega (arith, c.requires.on-stack)
 
 pub returns-then-not-rest_ok-2 : goal.returns-then-not-rest_ok-2
-returns-then-not-rest_ok-2 c = stop (passed-3 c.before.before.before.before) (sym c.rest_ok-2.ensures ∙ c.if-not-rest_ok-2.true)
+returns-then-not-rest_ok-2 c = stop (passed-3 c.before.before.before.before c.if-not-r.false) (sym c.rest_ok-2.ensures ∙ c.if-not-rest_ok-2.true)
 
 pub overflow_mul-sizes-2 : goal.overflow_mul-sizes-2
 overflow_mul-sizes-2 c = omega (arith, c.requires.deep)
@@ -129,4 +129,4 @@ pub overflow_mul-sizes-3 : goal.overflow_mul-sizes-3
 overflow_mul-sizes-3 c = omega (arith, c.requires.on-frames)
 
 pub returns : goal.returns
-returns c = last (pass (passed-3 c.before.before.before.before.before.before.before) (sym c.rest_ok-2.ensures ∙ c.if-not-rest_ok-2.false)) c.rest_ok-3.ensures
+returns c = last (pass (passed-3 c.before.before.before.before.before.before.before c.if-not-r.false) (sym c.rest_ok-2.ensures ∙ c.if-not-rest_ok-2.false)) c.rest_ok-3.ensures

@@ -1,6 +1,5 @@
 -- `queues_ok` meets its contract: the first test fails the whole, the second decides it. Assumes nothing.
 use mathlib.Core.Path.{refl}
-use borrow.Author.Tests.{not-true, not-false}
 use Rattle.check_tables.proofs.Bools.{first-fails, second-decides}
 use Rattle.check_machine.proofs.whole.queues_ok.Goals as goal
 

@@ -4,7 +4,7 @@ use mathlib.Core.Bool.{Bool, true, false}
 use mathlib.Core.List.{List, [], ◌∷◌}
 use Prim.Native.Nat.{ℕ}
 use lib.ListN.{length}
-use borrow.Author.Tests.{not-true, not-false}
+use borrow.Author.Tests.{not-false}
 use Rattle.memory_world.specs.Memory.{Lent}
 use Rattle.memory_world.specs.declared.machine.Sizes.{Sizes}
 use Rattle.memory_world.specs.Words.{sizes_of}
@@ -40,7 +40,7 @@ After-objects_ok = lts.After-objects_ok tie.the-claims reads.Pre reads.Post
 
 -- `sound_words` meets its contract: each part fails the whole, and the last decides it. Assumes nothing.
 abbrev lent : Start → Lent
-lent c = let a = c.args in lent_of a.stack.now a.frames.now a.chain.now a.slots.now a.saved_stack.now a.saved_frames.now a.ready.now a.finalize.now a.setup.now
+lent c = let a = c.args in lent_of a.stack.now a.frames.now a.chain.now a.slots.now a.saved.now a.asleep.now a.ready.now a.finalize.now a.setup.now
 
 abbrev numbers-by : Start → Sizes → Bool
 numbers-by c l =
@@ -80,10 +80,10 @@ objects c b e = sym (ap (objects-by c.before.before.before.before.before.before.
 passed-1 : (c : Else-not-setup_held) → Passed 1 c.before.before.before.before.before.before.before.before.before.before.before
 passed-1 c = pass (begun c.before.before.before.before.before.before.before.before.before.before.before) (held c)
 
-passed-2 : (c : Else-not-numbers_ok) → Passed 2 c
+passed-2 : (c : Else-not-numbers_ok) → Passed 2 c.before.before.before.before.before.before.before.before.before.before.before.before.before.before
 passed-2 c = pass (passed-1 c.before.before.before) (ready c)
 
-passed-3 : (c : Else-not-tower_ok) → Passed 3 c.before.before.before.before
+passed-3 : (c : Else-not-tower_ok) → Passed 3 c.before.before.before.before.before.before.before.before.before.before.before.before.before.before.before.before.before.before
 passed-3 c = pass (passed-2 c.before.before.before.before) (sym c.tower_ok.ensures ∙ c.if-not-tower_ok.false)
 
 pub returns-then-not-setup_held : goal.returns-then-not-setup_held
@@ -111,7 +111,7 @@ pub objects_ok-requires : goal.objects_ok-requires
 objects_ok-requires c =
     let a = c.args in
     subst
-    (λ (l : Sizes). ObjectsFit a.chain.now a.slots.now a.saved_stack.now a.saved_frames.now c.catches-need.result a.setup.now l a.m)
+    (λ (l : Sizes). ObjectsFit a.chain.now a.slots.now a.saved.now a.asleep.now c.catches-need.result a.setup.now l a.m)
     (sym c.sizes-sizes.ensures.words)
     (objects-fit (lent c.before.before.before.before.before.before.before.before.before.before.before.before.before.before.before.before.before.before.before.before) a.m a.fuel (held c.before.before.before.before.before.before.before.before.before) (ready c.before.before.before.before.before.before) _ c.catches-need.ensures)
 

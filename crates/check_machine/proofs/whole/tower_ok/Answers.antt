@@ -1,6 +1,5 @@
 -- `tower_ok` meets its contract: each test fails the whole, and the last decides it. Assumes nothing.
 use mathlib.Core.Path.{refl, sym, ◌∙◌}
-use borrow.Author.Tests.{not-true, not-false}
 use Rattle.check_tables.proofs.Bools.{three-1, three-2, three-3}
 use Rattle.check_machine.proofs.whole.tower_ok.Goals as goal
 

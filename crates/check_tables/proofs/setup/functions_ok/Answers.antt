@@ -9,10 +9,7 @@ use Rattle.lists.specs.Tests.{all_below}
 use Rattle.lists.proofs.Tests.{fails-at, holds-next}
 use Rattle.check_tables.specs.Setup.{function_test}
 use Rattle.check_tables.proofs.setup.functions_ok.Goals as goal
-
--- `functions_ok` meets its contract: the functions passed so far are in order. Assumes nothing.
-abbrev test : List ℕ → ℕ → Bool
-test ws i = function_test ws (14 + i * 35)
+use Rattle.check_tables.proofs.setup.functions_ok.Invariants.{test}
 
 pub loop-i-init : goal.loop-i-init
 loop-i-init c = (omega arith, refl)

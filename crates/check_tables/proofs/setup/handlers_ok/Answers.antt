@@ -10,10 +10,7 @@ use Rattle.lists.proofs.Tests.{fails-at, holds-next}
 use Rattle.model.specs.Program.{handler_ok}
 use Rattle.memory_tables.specs.Layout.{handler_from}
 use Rattle.check_tables.proofs.setup.handlers_ok.Goals as goal
-
--- `handlers_ok` meets its contract: the handlers passed so far are in order. Assumes nothing.
-abbrev test : List ℕ → ℕ → ℕ → ℕ → Bool
-test ws at regs j = handler_ok regs (handler_from ws (at + j * 4))
+use Rattle.check_tables.proofs.setup.handlers_ok.Invariants.{test}
 
 pub loop-j-init : goal.loop-j-init
 loop-j-init c = (omega arith, refl)

@@ -1,4 +1,5 @@
 -- `close_entered` meets its contract: a refused entry, or any other. Assumes nothing.
+use borrow.Enum.Refused.{opened}
 use Rattle.exec_close.proofs.Closed.{closes-entered, closes-refused}
 use Rattle.exec_close.proofs.close.close_entered.Goals as goal
 
@@ -7,5 +8,5 @@ returns-in-Refused c = λ l w b rep. closes-refused l _ c.args.m b.fuel w c.args
 
 pub returns : goal.returns
 returns c =
-    λ l w b rep. closes-entered l _ c.args.m b.fuel w c.args.v c.args.signal c.args.a c.in_default.in_default-own.keys2
+    λ l w b rep. closes-entered l _ c.args.m b.fuel w c.args.v c.args.signal c.args.a (opened c.in_default.in_default-own.keys2)
     (c.set_closing.ensures l w b rep)

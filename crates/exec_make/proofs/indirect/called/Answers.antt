@@ -35,7 +35,7 @@ pub returns-then-params_at-argc : goal.returns-then-params_at-argc
 returns-then-params_at-argc c =
     λ l w b rep.
     other-count l w (mem c.before.before.before.before.before.before.before.before.before b) c.args.m b.fuel rep c.args.v.0 c.args.argc c.in-Func.f (sym c.in-Func.is ∙ c.callee.ensures)
-    (sym c.is_function.ensures ∙ c.if-not-is_function.false) (λ z. c.if-params_at-argc.true (c.params_at_lem.ensures ∙ z))
+    (sym c.is_function.ensures ∙ c.if-not-is_function.false) (λ z. c.if-params_at-argc.true (c.params_at.ensures ∙ z))
 
 pub returns-in-Not : goal.returns-in-Not
 returns-in-Not c =
@@ -46,4 +46,4 @@ pub returns-else-params_at-argc : goal.returns-else-params_at-argc
 returns-else-params_at-argc c =
     λ l w b rep.
     is-callee l w (mem c.before.before.before.before.before.before.before.before.before b) c.args.m b.fuel rep c.args.v.0 c.args.argc c.in-Func.f (sym c.in-Func.is ∙ c.callee.ensures)
-    (sym c.is_function.ensures ∙ c.if-not-is_function.false) (sym c.params_at_lem.ensures ∙ c.if-params_at-argc.false)
+    (sym c.is_function.ensures ∙ c.if-not-is_function.false) (sym c.params_at.ensures ∙ c.if-params_at-argc.false)

@@ -1,4 +1,5 @@
 -- `call_hook` meets the model: a unit paid, and the hook's frame. Assumes nothing.
+use borrow.Enum.Refused.{opened}
 use mathlib.Core.Path.{subst}
 use Rattle.model.specs.Cleanup.{charge}
 use Rattle.model.specs.declared.call.OptPc.{OptPc}
@@ -36,5 +37,5 @@ pub returns : goal.returns
 returns c =
     λ w b rep snd.
     let did = c.charge_plain-paid.ensures c.args.m c.args.sizes w (around c.before.before.before.before.before.before.before.before.before.before.before.before.before.before.before b) rep in
-    was-paid c.args.hook c.args.pc c.args.dst c.args.c w c.args.sizes _ _ _ c.charge_plain-paid.result.answer _ c.in_default.in_default-own.keys2 did.answer
+    was-paid c.args.hook c.args.pc c.args.dst c.args.c w c.args.sizes _ _ _ c.charge_plain-paid.result.answer _ (opened c.in_default.in_default-own.keys2) did.answer
     (c.push_hook-did.ensures (charge OptPc.None w).world (record { words = b.words; fuel = c.charge_plain-paid.result.fuel }) did.world (paid-sound w snd))

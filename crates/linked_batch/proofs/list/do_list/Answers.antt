@@ -6,7 +6,7 @@ use Rattle.memory_world.specs.Lendings.{plain}
 use Rattle.outer_call.specs.State.{nine}
 use Rattle.outer_run.proofs.Written.{in-calls}
 use Rattle.linked_calls.specs.Host.{Host, host}
-use Rattle.linked_batch.proofs.Going.{going_start, going_more}
+use Rattle.linked_batch.proofs.Going.{going_start, going_more, going_end}
 use Rattle.linked_batch.proofs.list.do_list.Lts as lts
 use Rattle.linked_batch.proofs.list.do_list.Reads as reads
 use Rattle.linked_batch.proofs.list.do_list.Tie as tie
@@ -61,3 +61,8 @@ loop-i-preserved c =
     (left_by c.before.before.before.before.before.before.before.before.before.before.before.before.before.before.before.before.before.before.before.before.before.before.before) _ c.one.ensures
     (record { stack = k.stack; frames = k.frames; chain = k.chain; slots = k.slots; saved_stack = q.0; saved_frames = q.1.0; ready = q.1.1.0; finalize = q.1.1.1.0; setup = refl })
     refl q.1.1.1.1.1.0 q.1.1.1.1.1.1.0 q.1.1.1.1.1.1.1.1.0
+
+pub returns : goal.returns
+returns c =
+    let a = c.args in let t = c.loop-i-test.false in
+    going_end (at-start c.before.before.before.before.before.before.before.before.before.before.before.before.before.before.before.before) a.calls.now a.answers.now a.n (at-loop c.before.before) c.loop-i.answers c.loop-i.i c.loop-i.invariant (omega (arith, t))

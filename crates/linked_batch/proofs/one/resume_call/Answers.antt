@@ -1,10 +1,16 @@
 -- `resume_call` meets its contract: an entry done on the words, or what any call does. Assumes nothing.
+use mathlib.Core.Path.{refl}
 use native.Mathlib.Omega.{arith}
+use Rattle.lists.specs.Parts.{splice}
+use Rattle.model.specs.declared.call.Op.{Op}
 use Rattle.memory_world.specs.Memory.{Lent}
 use Rattle.memory_world.specs.Lendings.{plain}
+use Rattle.memory_calls.specs.Answer.{answer_words}
 use Rattle.outer_call.specs.State.{nine}
 use Rattle.linked_calls.specs.Host.{Host, host}
-use Rattle.linked_switch.proofs.Hosts.{long, holds, enters-fit}
+use Rattle.linked_switch.specs.Went.{goes_on}
+use Rattle.linked_switch.proofs.Hosts.{long, holds, enters-fit, went-in}
+use Rattle.linked_batch.proofs.Ones.{all_words, blank, switch-one, low, resume-typed}
 use Rattle.linked_batch.proofs.one.resume_call.Lts as lts
 use Rattle.linked_batch.proofs.one.resume_call.Reads as reads
 use Rattle.linked_batch.proofs.one.resume_call.Tie as tie
@@ -28,11 +34,61 @@ bounds-fuel-0 c = let h = (long (of c.before.before.before.before.before.before.
 pub may_enter-requires : goal.may_enter-requires
 may_enter-requires c = enters-fit (of c.before.before.before.before.before.before.before.before.before.before.before.before.before.before) c.requires.put.sound
 
+pub resume_at-requires : goal.resume_at-requires
+resume_at-requires c = record { held = holds (of c.before.before.before.before.before.before.before.before.before.before.before.before.before.before.before.before.before.before.before.before.before.before.before.before) c.requires.put.sound c.args.pc c.requires.narrow; enterable = c.may_enter.ensures.at _ _ c.in-At.is }
+
 pub goes_on_at-requires : goal.goes_on_at-requires
-goes_on_at-requires c = record { held = holds (of c.before.before.before.before.before.before.before.before.before.before.before.before.before.before.before.before.before.before.before.before.before.before.before.before.before.before.before.before.before.before.before.before.before.before.before.before.before.before.before.before.before.before) c.requires.put.sound c.args.pc c.requires.narrow; enterable = c.may_enter.ensures.at _ _ c.in-At.is }
+goes_on_at-requires c = c.requires.put.room
 
 pub general_at-requires : goal.general_at-requires
-general_at-requires c = c.requires.put.room
+general_at-requires c = c.requires.put
+
+pub returns-in-At : goal.returns-in-At
+returns-in-At c =
+    let a = c.args in
+    let sure = c.requires.put.sound in let may = c.may_enter.ensures.at _ _ c.in-At.is in
+    let k = c.resume_at.auto in let s = c.resume_at.new in let w = c.fits in
+    let short = low (of c.before.before.before.before.before.before.before.before.before.before.before.before.before.before.before.before.before.before.before.before.before.before.before.before.before.before.before.before.before.before.before.before.before.before.before.before.before.before.before.before.before.before.before.before.before) sure in let op = Op.Resume a.pc a.dst a.c a.src in
+    switch-one (of c.before.before.before.before.before.before.before.before.before.before.before.before.before.before.before.before.before.before.before.before.before.before.before.before.before.before.before.before.before.before.before.before.before.before.before.before.before.before.before.before.before.before.before.before.before) sure op (resume-typed a.pc a.dst a.c a.src c.requires.narrow
+    (omega (arith, short, may.dst-in)) (omega (arith, short, may.coro-in)) (omega (arith, short, may.src-in)))
+    (all_words 6 a.pc a.dst a.c a.src 0 (omega arith) w.pc.fits w.dst.fits w.c.fits w.src.fits (omega arith)) a.answers.now _ a.i _
+    (went-in (of c.before.before.before.before.before.before.before.before.before.before.before.before.before.before.before.before.before.before.before.before.before.before.before.before.before.before.before.before.before.before.before.before.before.before.before.before.before.before.before.before.before.before.before.before.before) sure blank op s.stack s.frames s.chain s.slots s.saved_stack
+    s.saved_frames s.machine s.fuel (splice blank 0 (answer_words goes_on))
+    (record { stack = k.stack; frames = k.frames; chain = k.chain; slots = k.slots; saved_stack = k.saved_stack; saved_frames = k.saved_frames; ready = refl; finalize = refl; setup = refl })
+    c.resume_at.ensures refl) c.goes_on_at.ensures
+
+pub shape_of-stack-in-Not : goal.shape_of-stack-in-Not
+shape_of-stack-in-Not c = c.general_at.auto.stack
+
+pub shape_of-frames-in-Not : goal.shape_of-frames-in-Not
+shape_of-frames-in-Not c = c.general_at.auto.frames
+
+pub shape_of-chain-in-Not : goal.shape_of-chain-in-Not
+shape_of-chain-in-Not c = c.general_at.auto.chain
+
+pub shape_of-slots-in-Not : goal.shape_of-slots-in-Not
+shape_of-slots-in-Not c = c.general_at.auto.slots
+
+pub shape_of-saved_stack-in-Not : goal.shape_of-saved_stack-in-Not
+shape_of-saved_stack-in-Not c = c.general_at.auto.saved_stack
+
+pub shape_of-saved_frames-in-Not : goal.shape_of-saved_frames-in-Not
+shape_of-saved_frames-in-Not c = c.general_at.auto.saved_frames
+
+pub shape_of-ready : goal.shape_of-ready
+shape_of-ready c = c.general_at.auto.ready
+
+pub shape_of-finalize : goal.shape_of-finalize
+shape_of-finalize c = c.general_at.auto.finalize
+
+pub shape_of-machine-in-Not : goal.shape_of-machine-in-Not
+shape_of-machine-in-Not c = c.general_at.auto.machine
+
+pub shape_of-fuel-in-Not : goal.shape_of-fuel-in-Not
+shape_of-fuel-in-Not c = c.general_at.auto.fuel
+
+pub shape_of-answers-in-Not : goal.shape_of-answers-in-Not
+shape_of-answers-in-Not c = c.general_at.auto.answers
 
 pub returns-in-Not : goal.returns-in-Not
-returns-in-Not c = c.requires.put
+returns-in-Not c = c.general_at.ensures

@@ -1,6 +1,8 @@
 -- `goes_on` meets its contract: eight stores are one run. Assumes nothing.
+use mathlib.Core.List.{[], ◌∷◌}
 use native.Mathlib.Omega.{arith}
 use lib.ListN.{length-set}
+use Rattle.memory_tables.proofs.Padded.{sets-splice}
 use Rattle.linked_switch.proofs.answer.goes_on.Goals as goal
 
 pub bounds-answer-1 : goal.bounds-answer-1
@@ -23,3 +25,6 @@ bounds-answer-6 c = simp length-set (omega arith)
 
 pub bounds-answer-7 : goal.bounds-answer-7
 bounds-answer-7 c = simp length-set (omega arith)
+
+pub returns : goal.returns
+returns c = sets-splice c.args.answer.now (0 ∷ 0 ∷ 2 ∷ 0 ∷ 3 ∷ 0 ∷ 0 ∷ 0 ∷ []) 0 c.requires

@@ -3,7 +3,7 @@ use mathlib.Core.Path.{◌≡◌, sym, ap, ap₂, ◌∙◌}
 use Prim.Native.Nat.{◌+◌}
 use native.Mathlib.Omega.{arith}
 use lib.ListN.{set}
-use borrow.Author.Tests.{not-true}
+use borrow.Author.Tests.{not-true, not-false}
 use Rattle.model.specs.State.{is_created}
 use Rattle.memory_world.specs.Memory.{Lent, Beside}
 use Rattle.memory_world.specs.Lendings.{lent}
@@ -11,7 +11,7 @@ use Rattle.coro_enter.specs.Enter.{grown}
 use Rattle.linked_calls.specs.Words.{machine_in}
 use Rattle.linked_switch.specs.Words.{entered_over, record_at}
 use Rattle.linked_switch.proofs.Fits.{at-fits, sum, fit}
-use Rattle.linked_switch.proofs.Storing.{enter-asks, enter-sends}
+use Rattle.linked_switch.proofs.Storing.{enter-asks, enter-sends, enter-fresh, enter-sent}
 use Rattle.linked_switch.proofs.enter.enter.Lts as lts
 use Rattle.linked_switch.proofs.enter.enter.Reads as reads
 use Rattle.linked_switch.proofs.enter.enter.Tie as tie
@@ -88,5 +88,25 @@ send-requires c =
     enter-sends c.requires s.new.frames s.ensures c.args.dst (left-words c.before.before.before.before.before.before.before.before.before.before.before.before.before.before.before.before.before.before.before.before.before.before.before.before) c.enter_at.ensures _ _ _
     c.regs_at-regs.ensures c.frames_at-deep.ensures c.waiting_at-waiting.ensures (sym (new c.before.before.before.before) ∙ c.if-not-is_created.true)
 
+pub shape_of-frames-then-not-is_created : goal.shape_of-frames-then-not-is_created
+shape_of-frames-then-not-is_created c = c.send.auto.frames ∙ c.enter_at.auto.frames ∙ c.store_pc.auto.frames
+
+pub returns-then-not-is_created : goal.returns-then-not-is_created
+returns-then-not-is_created c =
+    let s = c.store_pc in (
+      told c.before.before.before.before.before.before.before.before.before.before.before.before,
+      λ w b rep snd. enter-sent c.requires s.new.frames s.ensures c.args.dst (left-words c.before.before.before.before.before.before.before.before.before.before.before.before.before.before.before.before.before.before.before.before.before.before.before.before.before.before.before.before.before) c.enter_at.ensures _ _ _ _
+          c.reg-sent.ensures c.regs_at-regs.ensures c.frames_at-deep.ensures c.waiting_at-waiting.ensures
+          (sym (new c.before.before.before.before.before.before.before.before.before) ∙ c.if-not-is_created.true) w b _ _ c.send.ensures rep snd,
+    )
+
+pub shape_of-frames-else-not-is_created : goal.shape_of-frames-else-not-is_created
+shape_of-frames-else-not-is_created c = c.enter_at.auto.frames ∙ c.store_pc.auto.frames
+
 pub returns-else-not-is_created : goal.returns-else-not-is_created
-returns-else-not-is_created c = same-length-2 c
+returns-else-not-is_created c =
+    let s = c.store_pc in (
+      told c.before.before.before.before.before,
+      enter-fresh c.requires s.new.frames s.ensures c.args.dst (left-words c.before.before.before.before.before.before.before.before.before.before.before.before.before.before.before.before.before.before.before.before.before.before) c.enter_at.ensures
+          (sym (new c.before.before) ∙ c.if-not-is_created.false),
+    )

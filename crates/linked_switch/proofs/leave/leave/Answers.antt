@@ -1,15 +1,15 @@
 -- `leave` meets its contract: a pc stored, a suspension, the numbers, and the delivery. Assumes nothing.
-use mathlib.Core.Path.{◌≡◌, ap, ◌∙◌}
+use mathlib.Core.Path.{◌≡◌, ap, ap₂, ◌∙◌}
 use Prim.Native.Nat.{◌+◌, ◌-◌, ◌*◌, ◌≤◌}
 use native.Mathlib.Omega.{arith}
-use lib.ListN.{length}
+use lib.ListN.{length, set}
 use Rattle.model.specs.declared.machine.Active.{Active}
 use Rattle.memory_tables.specs.Layout.{base_in}
 use Rattle.memory_world.specs.Memory.{Lent, Beside}
 use Rattle.memory_world.specs.Lendings.{lent}
 use Rattle.linked_calls.specs.Words.{machine_in}
 use Rattle.linked_switch.specs.Leave.{innermost_in}
-use Rattle.linked_switch.proofs.Storing.{leave-asks, leave-sends}
+use Rattle.linked_switch.proofs.Storing.{base_kept, leave-asks, leave-sends, leave-done}
 use Rattle.linked_switch.proofs.leave.leave.Lts as lts
 use Rattle.linked_switch.proofs.leave.leave.Reads as reads
 use Rattle.linked_switch.proofs.leave.leave.Tie as tie
@@ -68,5 +68,32 @@ send-requires c =
     leave-sends c.requires s.new.frames s.ensures c.args.dst c.reg-payload.result c.active_at-a.result.floor c.base_at-base.result
     (left-words c.before.before.before.before.before.before.before.before.before.before.before.before.before.before.before.before.before.before.before) c.leave_at.ensures
 
+pub shape_of-stack : goal.shape_of-stack
+shape_of-stack c = c.send.auto.stack ∙ c.leave_at.auto.stack
+
+pub shape_of-frames : goal.shape_of-frames
+shape_of-frames c = c.send.auto.frames ∙ c.leave_at.auto.frames ∙ c.store_pc.auto.frames
+
+pub shape_of-chain : goal.shape_of-chain
+shape_of-chain c = c.leave_at.auto.chain
+
+pub shape_of-slots : goal.shape_of-slots
+shape_of-slots c = c.leave_at.auto.slots
+
+pub shape_of-saved_stack : goal.shape_of-saved_stack
+shape_of-saved_stack c = c.leave_at.auto.saved_stack
+
+pub shape_of-saved_frames : goal.shape_of-saved_frames
+shape_of-saved_frames c = c.leave_at.auto.saved_frames
+
+pub shape_of-machine : goal.shape_of-machine
+shape_of-machine c = c.put_numbers.auto.machine
+
 pub returns : goal.returns
-returns c = same_length c
+returns c =
+    let s = c.store_pc in
+    let ms = c.args.machine.now in let eb = base_read c.before.before.before.before.before.before.before.before.before.before.before.before.before.before.before.before.before.before.before.before.before.before.before.before.before.before.before.before.before.before.before in let ef = floored c.before.before.before.before.before.before.before.before.before.before.before.before.before.before.before.before.before.before.before.before.before.before.before.before.before.before.before.before.before.before.before.before in (
+      c.put_numbers.ensures ∙ ap₂ (λ x y. set (set (set ms 0 x) 1 y) 2 ((machine_in ms).active - 1)) (eb ∙ base_kept c.requires s.new.frames s.ensures) ef,
+      λ w b rep snd. leave-done c.requires s.new.frames s.ensures c.args.dst c.reg-payload.result c.active_at-a.result.floor c.base_at-base.result
+          (left-words c.before.before.before.before.before.before.before.before.before.before.before.before.before.before.before.before.before.before.before.before.before.before.before.before) c.leave_at.ensures c.reg-payload.ensures ef eb w b _ _ c.send.ensures rep snd,
+    )

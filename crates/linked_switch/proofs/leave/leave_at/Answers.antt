@@ -1,8 +1,11 @@
 -- `leave_at` meets its contract: a suspension that nothing refuses. Assumes nothing.
+use mathlib.Core.Path.{refl}
 use native.Mathlib.Omega.{arith}
 use Rattle.memory_world.specs.Memory.{Lent, Beside}
 use Rattle.memory_world.specs.Lendings.{lent}
+use Rattle.linked_calls.specs.Words.{machine_in, sizes_in}
 use Rattle.linked_switch.proofs.Fits.{slot_at, under, leave_fits}
+use Rattle.linked_switch.proofs.Leaving.{left}
 use Rattle.linked_switch.proofs.leave.leave_at.Lts as lts
 use Rattle.linked_switch.proofs.leave.leave_at.Reads as reads
 use Rattle.linked_switch.proofs.leave.leave_at.Tie as tie
@@ -30,3 +33,10 @@ overflow_sub-deep c =
 
 pub put_yielded-requires : goal.put_yielded-requires
 put_yielded-requires c = slot_at c.requires
+
+pub returns : goal.returns
+returns c =
+    let a = c.args in let ms = a.machine.now in
+    let s = c.move_out.new in λ w b rep snd. left (sizes_in ms) (mem c.before.before.before.before.before.before.before.before.before.before.before.before.before.before.before.before.before.before.before.before.before.before.before.before.before.before.before.before.before.before.before.before.before b) (machine_in ms) b.fuel w rep snd a.i c.requires.may a.dst a.payload a.key a.largest
+    s.stack s.frames c.pop_active.new.chain c.put_yielded.new.slots s.saved_stack s.saved_frames c.row_at-row.result a.floor a.base _ _
+    c.row_at-row.ensures c.requires.at-floor c.requires.at_base refl refl c.move_out.ensures c.pop_active.ensures c.put_yielded.ensures

@@ -31,5 +31,17 @@ leave_frames-requires c =
     let fit = c.requires.fits.leaving in let inside = fit.in-saved in
     record { under = fit.under; on-frames = fit.on-frames; in-saved = omega (arith, inside); above = fit.above }
 
+pub shape_of-stack : goal.shape_of-stack
+shape_of-stack c = c.leave_stack.auto.stack
+
+pub shape_of-frames : goal.shape_of-frames
+shape_of-frames c = c.leave_frames.auto.frames
+
+pub shape_of-saved_stack : goal.shape_of-saved_stack
+shape_of-saved_stack c = c.leave_stack.auto.saved
+
+pub shape_of-saved_frames : goal.shape_of-saved_frames
+shape_of-saved_frames c = c.leave_frames.auto.saved
+
 pub returns : goal.returns
-returns c = same_length c
+returns c = record { on-stack = c.leave_stack.ensures; on-frames = c.leave_frames.ensures }

@@ -14,7 +14,7 @@ use Rattle.linked_calls.specs.Words.{machine_in}
 use Rattle.linked_switch.specs.Words.{record_at}
 use Rattle.linked_switch.specs.Leave.{innermost_in}
 use Rattle.linked_switch.specs.Leaves.{by_resume, to_leave}
-use Rattle.linked_switch.proofs.Leavable.{no-frame, no_fuel, none_runs, no-dst, no_src, not-resume, no-resume, closing, too_wide, too-deep}
+use Rattle.linked_switch.proofs.Leavable.{no-frame, no_fuel, none_runs, no-dst, no_src, not-resume, no-resume, no_place, closing, too_wide, too-deep, no_key, no_word, at_slot}
 use Rattle.linked_switch.proofs.leaves.may_leave.Lts as lts
 use Rattle.linked_switch.proofs.leaves.may_leave.Reads as reads
 use Rattle.linked_switch.proofs.leaves.may_leave.Tie as tie
@@ -91,51 +91,89 @@ returns-then-width-dst c = no-dst (omega arith)
 pub returns-then-width-src : goal.returns-then-width-src
 returns-then-width-src c = no_src (omega arith)
 
+pub returns-in_default : goal.returns-in_default
+returns-in_default c = no-resume (ap (λ (x : Active). by_resume x.driver) (sym c.active_at-a.ensures) ∙ not-resume c.active_at-a.result.driver c.in_default.in_default-own.keys2)
+
 pub bounds-machine-3 : goal.bounds-machine-3
-bounds-machine-3 c = no-resume (ap (λ (x : Active). by_resume x.driver) (sym c.active_at-a.ensures) ∙ not-resume c.active_at-a.result.driver c.in-Resume.in-Resume-own.keys2)
+bounds-machine-3 c = let h = c.requires.words in omega (arith, h)
 
 pub coro_place-requires : goal.coro_place-requires
-coro_place-requires c = let h = c.requires.words in omega (arith, h)
+coro_place-requires c = c.requires.in-slots
 
 pub closing_at-requires : goal.closing_at-requires
-closing_at-requires c = c.requires.in-slots
+closing_at-requires c = slot c.before
+
+pub returns-then-closing_at : goal.returns-then-closing_at
+returns-then-closing_at c = closing (found c.before.before.before) (sym c.closing_at.ensures ∙ c.if-closing_at.true)
+
+pub base_at-base-requires : goal.base_at-base-requires
+base_at-base-requires c = let f = floored c.before.before.before.before.before.before.before in let h = c.requires.on-frames in omega (arith, f, h)
 
 pub maxregs_at-requires : goal.maxregs_at-requires
-maxregs_at-requires c = slot c.before
+maxregs_at-requires c = slot c.before.before.before.before
 
 pub bounds-machine-0-in-At : goal.bounds-machine-0-in-At
-bounds-machine-0-in-At c = closing (found c.before.before.before) (sym c.closing_at.ensures ∙ c.if-closing_at.true)
+bounds-machine-0-in-At c = let h = c.requires.words in omega (arith, h)
 
 pub overflow_sub-machine-in-At : goal.overflow_sub-machine-in-At
-overflow_sub-machine-in-At c = let f = floored c.before.before.before.before.before.before.before.before.before.before in let h = c.requires.on-frames in omega (arith, f, h)
+overflow_sub-machine-in-At c =
+    let e = based c.before.before.before in
+    let h = c.requires.base (runs c.before.before.before.before.before.before.before.before.before.before) in omega (arith, h, e)
 
 pub returns-then-maxregs_at-machine : goal.returns-then-maxregs_at-machine
-returns-then-maxregs_at-machine c = slot c.before.before.before.before
+returns-then-maxregs_at-machine c = let e = based c.before.before.before.before in let n = c.maxregs_at.ensures in too_wide (found c.before.before.before.before.before.before.before) (omega (arith, e, n, c.if-maxregs_at-machine.true))
 
 pub maxframes_at-requires : goal.maxframes_at-requires
-maxframes_at-requires c = let h = c.requires.words in omega (arith, h)
+maxframes_at-requires c = slot c.before.before.before.before.before.before.before
 
 pub bounds-machine-1-in-At : goal.bounds-machine-1-in-At
-bounds-machine-1-in-At c =
-    let e = based c.before.before.before.before.before.before in
-    let h = c.requires.base (runs c.before.before.before.before.before.before.before.before.before.before.before.before.before) in omega (arith, h, e)
+bounds-machine-1-in-At c = let h = c.requires.words in omega (arith, h)
 
 pub overflow_sub-machine-in-At-2 : goal.overflow_sub-machine-in-At-2
-overflow_sub-machine-in-At-2 c = let e = based c.before.before.before.before.before.before.before in let n = c.maxregs_at.ensures in too_wide (found c.before.before.before.before.before.before.before) (omega (arith, e, n, c.if-maxregs_at-machine.true))
+overflow_sub-machine-in-At-2 c = let f = floored c.before.before.before.before.before.before.before.before.before.before.before.before.before.before in omega (arith, f)
 
 pub returns-then-maxframes_at-machine : goal.returns-then-maxframes_at-machine
-returns-then-maxframes_at-machine c = slot c.before.before.before.before.before.before.before
-
-pub largest_at-requires : goal.largest_at-requires
-largest_at-requires c = let h = c.requires.words in omega (arith, h)
-
-pub next_key-requires : goal.next_key-requires
-next_key-requires c = let f = floored c.before.before.before.before.before.before.before.before.before.before.before.before.before.before.before.before in omega (arith, f)
-
-pub inline_int-requires : goal.inline_int-requires
-inline_int-requires c =
+returns-then-maxframes_at-machine c =
     let f = ap (λ (x : Active). x.floor) c.active_at-a.ensures in let n = c.maxframes_at.ensures in
     too-deep (found c.before.before.before.before.before.before.before.before.before.before.before) (omega (arith, f, n, c.if-maxframes_at-machine.true))
 
+pub largest_at-requires : goal.largest_at-requires
+largest_at-requires c = slot c.before.before.before.before.before.before.before.before.before.before.before
+
 pub returns-in-Not : goal.returns-in-Not
-returns-in-Not c = slot c.before.before.before.before.before.before.before.before.before.before.before
+returns-in-Not c = no_place (sym c.in-Not.is ∙ named c.before.before)
+
+pub returns-in-Over : goal.returns-in-Over
+returns-in-Over c = no_key (found c.before.before) (sym c.in-Over.is ∙ next-key c.before.before)
+
+pub returns-in-Large : goal.returns-in-Large
+returns-in-Large c = no_word (found c.before.before.before.before.before.before) (sym c.in-Fits.is ∙ next-key c.before.before.before.before) (sym c.in-Large.is ∙ c.inline_int.ensures)
+
+pub returns-in-At-inline_int : goal.returns-in-At-inline_int
+returns-in-At-inline_int c =
+    let is = c.active_at-a.ensures in
+    let low = c.base_at-low.ensures in let above = c.if-machine-low.false in
+    let run = runs c.before.before.before.before.before.before.before.before.before.before.before.before.before.before.before.before.before.before.before.before in let e = based c.before.before.before.before.before.before.before.before.before.before.before.before.before in let f = ap (λ (x : Active). x.floor) is in
+    let wide = c.maxregs_at.ensures in let deep = c.maxframes_at.ensures in
+    at_slot (found c.before.before.before.before.before.before.before.before.before.before.before.before.before.before.before.before.before.before.before.before)
+    (record {
+      some = some-active _ c.if-machine-eq0.false;
+      paid = some-active _ c.if-fuel-eq0.false;
+      dst-in = omega (arith, low, above, c.if-width-dst.false);
+      src-in = omega (arith, low, above, c.if-width-src.false);
+      may =
+          record {
+            running = run;
+            floor = c.requires.floor run;
+            found = found c.before.before.before.before.before.before.before.before.before.before.before.before.before.before.before.before.before.before.before.before;
+            unclosed = sym c.closing_at.ensures ∙ c.if-closing_at.false;
+            wide = omega (arith, e, wide, c.if-maxregs_at-machine.false);
+            deep = omega (arith, f, deep, c.if-maxframes_at-machine.false);
+          };
+      keyed =
+          record {
+            next = sym c.in-Fits.is ∙ next-key c.before.before.before.before;
+            inline = sym c.in-At-inline_int.is ∙ c.inline_int.ensures;
+          };
+      driven = ap (λ (x : Active). x.driver) (sym is) ∙ by-resume c.before.before.before.before.before.before.before.before.before.before.before.before.before.before.before.before.before.before.before.before;
+    })

@@ -10,7 +10,7 @@ pub returns-then-m-eq0 : goal.returns-then-m-eq0
 returns-then-m-eq0 c =
     λ l w b rep. let M = on_frames c.args.frames.now b.words in
     record {
-      c.before.before.before = none-base l w M c.args.m b.fuel rep c.if-m-eq0.true;
+      start = none-base l w M c.args.m b.fuel rep c.if-m-eq0.true;
       end = none_end l w M c.args.m b.fuel rep c.if-m-eq0.true;
       part = none_seen l w M c.args.m b.fuel rep c.if-m-eq0.true;
     }
@@ -21,7 +21,7 @@ returns c =
     let some : 1 ≤ c.args.m.depth = omega arith in
     λ l w b rep. let M = on_frames c.args.frames.now b.words in
     record {
-      c.before.before.before.before.before = c.base_at-start.ensures ∙ some-base l w M c.args.m b.fuel rep some;
+      start = c.base_at-start.ensures ∙ some-base l w M c.args.m b.fuel rep some;
       end = some_end l w M c.args.m b.fuel rep some;
       part = seen l w M c.args.m b.fuel rep _ c.base_at-start.ensures some;
     }
