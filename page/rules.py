@@ -127,7 +127,7 @@ def check_rules(mend):
     page = now = RULES.read_text()
     sections, quotations = {}, {}
     for path in sorted((ROOT / "crates").rglob("*")):
-        if path.suffix in (".antt", ".rt"):
+        if path.suffix in (".antt", ".rt") and "out" not in path.relative_to(ROOT).parts:
             for line, text in comments_of(path):
                 for one in re.findall(r'"([^"]+)"', text):
                     quotations.setdefault(path.relative_to(ROOT), []).append((line, one))

@@ -30,7 +30,7 @@
 //!   `crates/linked_switch/src`. So what is said of `bvm_call_unchecked` above
 //!   holds of them.
 //! - `bvm_batch` may be lent any words whatever, and leaves a well-formed
-//!   machine well-formed (`runHost` there; `ran` of `Library.antt`).
+//!   machine well-formed (`run_host` there; `ran` of `Library.antt`).
 
 #![allow(unsafe_code)]
 

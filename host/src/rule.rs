@@ -7,7 +7,7 @@ use crate::{Fault, FunctionId};
 
 /// The rule of 01's closing list that a set-up breaks, with the number that
 /// breaks it. Where it breaks several, the first in the order of the test
-/// (`setupOk` of `crates/model/specs/Program.antt`). Every one is fault 11.
+/// (`setup_ok` of `crates/model/specs/Program.antt`). Every one is fault 11.
 #[derive(Clone, Copy, PartialEq, Eq, Hash)]
 pub enum SetupError {
     /// "Depth 1-128".
@@ -94,7 +94,7 @@ impl fmt::Debug for SetupError {
 impl error::Error for SetupError {}
 
 impl Function {
-    /// Its first broken rule: `functionOk`, `handlerOk`. A pc has 32 bits by
+    /// Its first broken rule: `function_ok`, `handler_ok`. A pc has 32 bits by
     /// its type.
     fn broken(&self, id: FunctionId) -> Option<SetupError> {
         if self.registers > 256 {

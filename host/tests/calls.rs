@@ -1,5 +1,5 @@
 //! The typed side against the definitions: the words of each call are those of
-//! `opWords` (`crates/memory_calls/specs/Call.antt`), also through the C header, and
+//! `op_words` (`crates/memory_calls/specs/Call.antt`), also through the C header, and
 //! so are a set-up's.
 
 use std::path::{Path, PathBuf};
@@ -12,11 +12,11 @@ fn here() -> &'static Path {
     Path::new(env!("CARGO_MANIFEST_DIR"))
 }
 
-/// The lines of `opWords`: a call's name and its six parts, as they stand there.
+/// The lines of `op_words`: a call's name and its six parts, as they stand there.
 fn definition() -> Vec<(String, Vec<String>)> {
     let file = here().join("../crates/memory_calls/specs/Call.antt");
     let text = fs::read_to_string(file).expect("the definition");
-    let lines = text.lines().filter_map(|l| l.strip_prefix("opWords ")?.split_once(" = six "));
+    let lines = text.lines().filter_map(|l| l.strip_prefix("op_words ")?.split_once(" = six "));
     let found = lines.map(|(call, words)| {
         let name = call.trim_start_matches('(').split([' ', ')']).next().unwrap_or_default();
         (name.trim_start_matches("Op.").to_string(), parts(words))
@@ -66,10 +66,10 @@ fn each() -> Vec<Tried> {
     let pc = p(11);
     let thrown = |n| {
         vec![
-            ("(numberOf f)", 17),
-            ("(wordOf f)", 12),
-            ("(optCode pc)", n),
-            ("(optWord pc)", n * 14),
+            ("(number_of f)", 17),
+            ("(word_of f)", 12),
+            ("(opt_code pc)", n),
+            ("(opt_word pc)", n * 14),
         ]
     };
     vec![
@@ -140,7 +140,7 @@ fn each() -> Vec<Tried> {
         (
             Call::Finish { value: Value::U64(12) },
             "Finish",
-            vec![("(kindCode kind)", 3), ("v", 12)],
+            vec![("(kind_code kind)", 3), ("v", 12)],
             "finish",
         ),
         (Call::Unwind { fault: Fault::Throw(w(12)), pc: None }, "Unwind", thrown(0), "unwind"),
@@ -161,7 +161,7 @@ fn each() -> Vec<Tried> {
         (
             Call::FunctionCall { pc, func: f(12), cont: Cont::Value(c) },
             "FunctionCall",
-            vec![("pc", 11), ("f", 12), ("(contCode k)", 3), ("(contReg k)", 14)],
+            vec![("pc", 11), ("f", 12), ("(cont_code k)", 3), ("(cont_reg k)", 14)],
             "function_call",
         ),
         (Call::PutWord { reg: r(11), word: w(12) }, "PutWord", plain(&["r", "v"]), "put_word"),

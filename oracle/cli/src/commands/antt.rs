@@ -47,7 +47,8 @@ const FAULTS: [&str; 17] = [
 
 const STATES_OF: [&str; 6] = ["Created", "Running", "Yielded", "Awaiting", "Returned", "Failed"];
 
-pub(super) const HEAD: &str = "use Rattle.std.specs.Prelude.{ℕ, ◌≡◌, refl, true, false, [], ◌∷◌, ◌++◌, set}
+pub(super) const HEAD: &str =
+    "use Rattle.std.specs.Prelude.{ℕ, ◌≡◌, refl, true, false, [], ◌∷◌, ◌++◌, set}
 use Rattle.std.proofs.Math.Option.{none, some}
 use Rattle.heap.specs.Table.{slot}
 use Rattle.heap.specs.declared.fault.Fault.{Fault}
