@@ -4,7 +4,7 @@ use mathlib.Core.Bool.{Bool, true, false, ◌&&◌}
 use mathlib.Core.List.{List, [], ◌∷◌}
 use Prim.Native.Nat.{ℕ, ◌*◌}
 use native.Mathlib.Omega.{arith}
-use borrow.Author.Tests.{not-false}
+use borrow.Author.Tests.{not-true, not-false}
 use Rattle.heap.specs.Heap.{slots_of}
 use Rattle.memory_world.specs.Decode.{setup_of}
 use Rattle.memory_sound.specs.Words.{rest_ok}
@@ -97,7 +97,7 @@ pub running-r-requires : goal.running-r-requires
 running-r-requires c = let p = c.requires in record { on_chain = p.on_chain; table = p.table; few = p.few }
 
 pub returns-then-not-r : goal.returns-then-not-r
-returns-then-not-r c = stop (passed-1 c.before.before.before.before) (sym c.running-r.ensures.good ∙ c.if-not-r.true)
+returns-then-not-r c = stop (passed-1 c.before.before.before.before) (sym c.running-r.ensures.good ∙ not-true _ c.if-not-r.true)
 
 pub rows_ok-requires : goal.rows_ok-requires
 rows_ok-requires c =
@@ -114,13 +114,13 @@ rows_ok-requires c =
     }
 
 pub returns-then-not-rows_ok : goal.returns-then-not-rows_ok
-returns-then-not-rows_ok c = stop (passed-2 c.before.before.before.before.before c.if-not-r.false) (rows_are c.before.before c.if-not-r.false false c.if-not-rows_ok.true)
+returns-then-not-rows_ok c = stop (passed-2 c.before.before.before.before.before (not-false _ c.if-not-r.false)) (rows_are c.before.before (not-false _ c.if-not-r.false) false c.if-not-rows_ok.true)
 
 pub overflow_mul-sizes : goal.overflow_mul-sizes
 overflow_mul-sizes c = omega (arith, c.requires.on-stack)
 
 pub returns-then-not-rest_ok-2 : goal.returns-then-not-rest_ok-2
-returns-then-not-rest_ok-2 c = stop (passed-3 c.before.before.before.before c.if-not-r.false) (sym c.rest_ok-2.ensures ∙ c.if-not-rest_ok-2.true)
+returns-then-not-rest_ok-2 c = stop (passed-3 c.before.before.before.before (not-false _ c.if-not-r.false)) (sym c.rest_ok-2.ensures ∙ c.if-not-rest_ok-2.true)
 
 pub overflow_mul-sizes-2 : goal.overflow_mul-sizes-2
 overflow_mul-sizes-2 c = omega (arith, c.requires.deep)
@@ -129,4 +129,4 @@ pub overflow_mul-sizes-3 : goal.overflow_mul-sizes-3
 overflow_mul-sizes-3 c = omega (arith, c.requires.on-frames)
 
 pub returns : goal.returns
-returns c = last (pass (passed-3 c.before.before.before.before.before.before.before c.if-not-r.false) (sym c.rest_ok-2.ensures ∙ c.if-not-rest_ok-2.false)) c.rest_ok-3.ensures
+returns c = last (pass (passed-3 c.before.before.before.before.before.before.before (not-false _ c.if-not-r.false)) (sym c.rest_ok-2.ensures ∙ c.if-not-rest_ok-2.false)) c.rest_ok-3.ensures

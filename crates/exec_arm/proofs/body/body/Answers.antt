@@ -1,4 +1,5 @@
 -- `body` meets the definition, by the instruction. Assumes nothing.
+use borrow.Enum.Refused.{opened}
 use Rattle.exec_arm.proofs.Fitting.{around, as-arm, yield-fits, kv-fits, await-fits}
 use Rattle.exec_arm.proofs.Tags.{not-suspending}
 use Rattle.exec_arm.proofs.body.body.Goals as goal
@@ -25,4 +26,4 @@ pub returns-in-Await : goal.returns-in-Await
 returns-in-Await c = λ pc t arm q w b rep snd. as-arm q c.in-Await.is (c.coro_await.ensures w (around rep) rep snd)
 
 pub returns-in_default : goal.returns-in_default
-returns-in_default c = c.entering.ensures (not-suspending _ c.in_default.in_default-own.keys4)
+returns-in_default c = c.entering.ensures (not-suspending _ (opened c.in_default.in_default-own.keys4))

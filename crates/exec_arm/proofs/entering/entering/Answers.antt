@@ -1,4 +1,5 @@
 -- `entering` meets the definition, by the instruction that enters. Assumes nothing.
+use borrow.Enum.Refused.{opened}
 use Rattle.exec_arm.proofs.Fitting.{around, as-arm, resume-fits, throw-fits, close-fits, next_fits}
 use Rattle.exec_arm.proofs.Tags.{not-entering}
 use Rattle.exec_arm.proofs.entering.entering.Goals as goal
@@ -33,4 +34,4 @@ returns-in-IterNext c = λ s pc t arm q w b rep snd. as-arm q c.in-IterNext.is (
 pub returns-in_default : goal.returns-in_default
 returns-in_default c =
     λ s.
-    c.staying.ensures s (not-entering _ c.in_default.in_default-own.keys5)
+    c.staying.ensures s (not-entering _ (opened c.in_default.in_default-own.keys5))

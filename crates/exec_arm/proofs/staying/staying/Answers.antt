@@ -1,4 +1,5 @@
 -- `staying` meets the definition, by the instruction after which the same coroutine runs. Assumes nothing.
+use borrow.Enum.Refused.{opened}
 use mathlib.Core.Path.{ap}
 use native.Mathlib.Omega.{arith}
 use Rattle.model.specs.Calls.{table}
@@ -49,4 +50,4 @@ pub returns-in-CoroResult : goal.returns-in-CoroResult
 returns-in-CoroResult c = λ s e pc t arm q w b rep snd. as-arm q c.in-CoroResult.is (c.coro_result-step.ensures _ w (around rep) rep)
 
 pub returns-in_default : goal.returns-in_default
-returns-in_default c = λ s e. no-group c.args.op _ s e c.in_default.in_default-own.keys8
+returns-in_default c = λ s e. no-group c.args.op _ s e (opened c.in_default.in_default-own.keys8)

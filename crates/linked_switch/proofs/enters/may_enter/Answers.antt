@@ -3,7 +3,6 @@ use mathlib.Core.Path.{◌≡◌, sym, ap, ◌∙◌}
 use Prim.Native.Nat.{◌+◌}
 use native.Mathlib.Omega.{arith}
 use lib.ListN.{get_or}
-use borrow.Author.Tests.{not-true, not-false}
 use Rattle.heap.specs.Heap.{SlotFits, slots_of, coro_of, place_of}
 use Rattle.heap.specs.declared.heap.CoroPlace.TheVariants as L
 use Rattle.heap.proofs.Place.{stands-words}

@@ -1,7 +1,6 @@
 -- `host_call` meets the definition: its gate, then the call. Assumes nothing.
 use mathlib.Core.Path.{refl, sym, ◌∙◌}
 use native.Mathlib.Omega.{arith}
-use borrow.Author.Tests.{not-true, not-false}
 use Rattle.memory_world.specs.Lendings.{top_setup, plain}
 use Rattle.model.specs.declared.call.Op.{Op}
 use Rattle.exec_instruction.proofs.Gated.{no_frames, some-frames}

@@ -3,7 +3,6 @@ use mathlib.Core.Path.{refl, sym, ◌∙◌}
 use Prim.Native.Nat.{◌≤◌}
 use native.Mathlib.Omega.{arith}
 use lib.ListN.{get_or}
-use borrow.Author.Tests.{not-true, not-false}
 use Rattle.memory_world.specs.Lendings.{top_setup, plain}
 use Rattle.model.specs.declared.call.Op.{Op}
 use Rattle.exec_instruction.proofs.Gated.{no_frames, some-frames, numbered}

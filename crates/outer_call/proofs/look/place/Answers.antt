@@ -1,7 +1,6 @@
 -- `place` meets its contract: nothing if the words are not sound, else as `look` says. Assumes nothing.
 use mathlib.Core.Path.{refl, sym, ◌∙◌}
 use mathlib.Core.Bool.{true, false}
-use borrow.Author.Tests.{not-true, not-false}
 use Rattle.claims_sound.proofs.Tests.{no_false}
 use Rattle.outer_call.proofs.look.place.Goals as goal
 

@@ -2,7 +2,6 @@
 use mathlib.Core.Path.{◌≡◌, sym, ◌∙◌}
 use mathlib.Core.Bool.{true}
 use native.Mathlib.Omega.{arith}
-use borrow.Author.Tests.{not-true, not-false}
 use Rattle.memory_sound.specs.Words.{setup_held}
 use Rattle.outer_call.specs.SetUp.{lengths}
 use Rattle.outer_call.proofs.Begun.{given-fits, sizes-fit, not-held, no_room, all_told}
