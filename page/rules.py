@@ -393,7 +393,9 @@ def check_counts(mend):
     told = re.search(r"all (\d+) crates", (ROOT / "README.md").read_text())
     if not told or int(told.group(1)) != counts()["crates"]:
         say(f"README.md: not all {counts()['crates']} crates")
-    print(f"rules: {len(counts())} counts of docs/TESTING.md, and the sizes of README.md")
+    if f"`{(ROOT / 'toolchain').read_text().strip()}`" not in (ROOT / "README.md").read_text():
+        say("README.md does not name the toolchain of the file toolchain")
+    print(f"rules: {len(counts())} counts of docs/TESTING.md, the sizes of README.md and its toolchain")
 
 
 def check_linked():
