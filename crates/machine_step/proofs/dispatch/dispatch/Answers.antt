@@ -1,4 +1,5 @@
 -- `dispatch` meets the definition, by the operation. Assumes nothing.
+use borrow.Enum.Refused.{opened}
 use mathlib.Core.Path.{refl}
 use Rattle.exec_arm.proofs.Fitting.{around}
 use Rattle.machine_step.proofs.Calls.{as_row, as_same, as-instruction, made_of, lent_ok}
@@ -208,4 +209,4 @@ shape_of-finalize-in_default c = search
 pub returns-in_default : goal.returns-in_default
 returns-in_default c =
     let o = c.args.op in
-    λ w b rep snd. as-instruction _ _ _ _ w o _ (are-instructions o c.in_default.in_default-own.keys14) (λ pc t arm q. c.instruction.ensures pc t arm q w (around rep) rep snd)
+    λ w b rep snd. as-instruction _ _ _ _ w o _ (are-instructions o (opened c.in_default.in_default-own.keys14)) (λ pc t arm q. c.instruction.ensures pc t arm q w (around rep) rep snd)
