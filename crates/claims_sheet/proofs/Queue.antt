@@ -82,9 +82,23 @@ module _ (pc : ℕ) (w : World) where
 
   loses : (ok : Bool) (own : World → Lines Step) → Owns (charged pc w) (own (charged pc w)) → Loses (leads_from (refuse 11 (not (sound w)) w ∷ (instruction pc ok own w).tests) (instruction pc ok own w).done)
   loses ok own o =
-      led-in-turn Loses (refuse 11 (not (sound w)) w ∷ (instruction pc ok own w).tests) (instruction pc ok own w).done
-      (λ _. nothing, λ _. (λ _. nothing, λ _. (λ _. nothing, λ _. (λ _. nothing, λ _. (cleaned, λ h. in-turn Loses (map (as_answer (lost pc w)) (own u).tests) (as_answer (lost pc w) (own u).done) (own-lines (own u).tests h o.0)
-      (own_line (own u).done.left (eqb (own u).done.number 10) (own u).done.answer h o.1.kept.queue))))))
+      led-in-turn Loses (refuse 11 (not (sound w)) w ∷ (instruction pc ok own w).tests) (instruction pc ok own w).done (
+        λ _. nothing,
+        λ _. (
+          λ _. nothing,
+          λ _. (
+            λ _. nothing,
+            λ _. (
+              λ _. nothing,
+              λ _. (
+                cleaned,
+                λ h. in-turn Loses (map (as_answer (lost pc w)) (own u).tests) (as_answer (lost pc w) (own u).done) (own-lines (own u).tests h o.0)
+                    (own_line (own u).done.left (eqb (own u).done.number 10) (own u).done.answer h o.1.kept.queue),
+              ),
+            ),
+          ),
+        ),
+      )
     where
       u : World
       u = charged pc w

@@ -22,13 +22,12 @@ returns-then-may_start c =
     (omega arith) (sym c.may_start.ensures ∙ c.if-may_start.true)
 
 pub loop-i-preserved : goal.loop-i-preserved
-loop-i-preserved c =
-    (
-      omega arith,
-      ahead-next (starts c.args.slots.now c.args.m c.args.sizes) c.args.finalize.now c.args.m.finalize c.loop-i.i
-          c.requires.words c.loop-i.invariant.1
-          (omega arith) (sym c.may_start.ensures ∙ c.if-may_start.false),
-    )
+loop-i-preserved c = (
+  omega arith,
+  ahead-next (starts c.args.slots.now c.args.m c.args.sizes) c.args.finalize.now c.args.m.finalize c.loop-i.i
+      c.requires.words c.loop-i.invariant.1
+      (omega arith) (sym c.may_start.ensures ∙ c.if-may_start.false),
+)
 
 pub returns : goal.returns
 returns c =

@@ -13,14 +13,13 @@ pub returns-then-not-held-i : goal.returns-then-not-held-i
 returns-then-not-held-i c = sym (c.loop-i.invariant.3 ∙ lowest-stop (λ n. get_or c.args.held n false) c.args.rows c.loop-i.i c.loop-i-test.true c.if-not-held-i.true)
 
 pub loop-i-preserved : goal.loop-i-preserved
-loop-i-preserved c =
-    (
-      omega arith,
-      c.loop-i.invariant.1,
-      c.loop-i.invariant.2,
-      c.loop-i.invariant.3
-          ∙ lowest-on (λ n. get_or c.args.held n false) c.args.rows c.loop-i.i c.loop-i-test.true c.if-not-held-i.false,
-    )
+loop-i-preserved c = (
+  omega arith,
+  c.loop-i.invariant.1,
+  c.loop-i.invariant.2,
+  c.loop-i.invariant.3
+      ∙ lowest-on (λ n. get_or c.args.held n false) c.args.rows c.loop-i.i c.loop-i-test.true c.if-not-held-i.false,
+)
 
 pub returns : goal.returns
 returns c = sym (c.loop-i.invariant.3 ∙ lowest-end (λ n. get_or c.args.held n false) c.args.rows c.loop-i.i c.loop-i.invariant.0 c.loop-i-test.false)
