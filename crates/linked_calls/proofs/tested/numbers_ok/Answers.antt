@@ -52,10 +52,10 @@ passed-4 : (c : Else-fuel-gt1) → Passed 4 c.before.before.before.before.before
 passed-4 c = pass (passed-3 c.before.before) (le-leb _ _ c.if-fuel-gt1.false)
 
 pub returns-then-machine-lt-MACHINE_WIDTH : goal.returns-then-machine-lt-MACHINE_WIDTH
-returns-then-machine-lt-MACHINE_WIDTH c = stop (begun c.before) (lt-leb _ _ c.if-machine-lt-MACHINE_WIDTH.true)
+returns-then-machine-lt-MACHINE_WIDTH c = stop (begun c.before.before) (lt-leb _ _ c.if-machine-lt-MACHINE_WIDTH.true)
 
 pub returns-then-fuel-lt-FUEL_WIDTH : goal.returns-then-fuel-lt-FUEL_WIDTH
-returns-then-fuel-lt-FUEL_WIDTH c = stop (passed-1 c.before) (lt-leb _ _ c.if-fuel-lt-FUEL_WIDTH.true)
+returns-then-fuel-lt-FUEL_WIDTH c = stop (passed-1 c.before.before) (lt-leb _ _ c.if-fuel-lt-FUEL_WIDTH.true)
 
 pub returns-then-machine-gt1 : goal.returns-then-machine-gt1
 returns-then-machine-gt1 c = stop (passed-2 c.before.before.before) (lt-leb _ _ c.if-machine-gt1.true)
