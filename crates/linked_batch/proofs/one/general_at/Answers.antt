@@ -58,6 +58,6 @@ shape_of-fuel c = c.bvm_call_unchecked.auto.fuel
 pub returns : goal.returns
 returns c =
     let a = c.args in
-    let w = c.fits in
+    let w = c.ranges in
     kept-one (of c.before.before.before.before.before.before.before.before.before.before.before.before.before.before.before.before.before.before.before.before.before.before.before.before.before.before.before.before.before.before.before.before.before.before.before.before.before.before.before.before.before.before.before.before.before.before.before.before) c.requires.sound (six a.n a.a a.b a.c a.d a.e)
     (all_words a.n a.a a.b a.c a.d a.e w.n.fits w.a.fits w.b.fits w.c.fits w.d.fits w.e.fits) a.answers.now a.i c.requires.room _ _ _ c.bvm_call_unchecked.ensures

@@ -47,7 +47,7 @@ pub returns-in-At : goal.returns-in-At
 returns-in-At c =
     let a = c.args in
     let sure = c.requires.put.sound in let may = c.may_enter.ensures.at _ _ c.in-At.is in
-    let k = c.resume_at.auto in let s = c.resume_at.new in let w = c.fits in
+    let k = c.resume_at.auto in let s = c.resume_at.new in let w = c.ranges in
     let short = low (of c.before.before.before.before.before.before.before.before.before.before.before.before.before.before.before.before.before.before.before.before.before.before.before.before.before.before.before.before.before.before.before.before.before.before.before.before.before.before.before.before.before.before.before.before.before) sure in let op = Op.Resume a.pc a.dst a.c a.src in
     switch-one (of c.before.before.before.before.before.before.before.before.before.before.before.before.before.before.before.before.before.before.before.before.before.before.before.before.before.before.before.before.before.before.before.before.before.before.before.before.before.before.before.before.before.before.before.before.before) sure op (resume-typed a.pc a.dst a.c a.src c.requires.narrow
     (omega (arith, short, may.dst-in)) (omega (arith, short, may.coro-in)) (omega (arith, short, may.src-in)))

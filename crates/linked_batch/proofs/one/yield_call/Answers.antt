@@ -47,7 +47,7 @@ pub returns-in-At : goal.returns-in-At
 returns-in-At c =
     let a = c.args in
     let sure = c.requires.put.sound in let may = c.may_leave.ensures.at _ _ _ _ c.in-At.is in
-    let k = c.yield_at.auto in let s = c.yield_at.new in let w = c.fits in
+    let k = c.yield_at.auto in let s = c.yield_at.new in let w = c.ranges in
     let short = low (of c.before.before.before.before.before.before.before.before.before.before.before.before.before.before.before.before.before.before.before.before.before.before.before.before.before.before.before.before.before.before.before.before.before.before.before.before.before.before.before.before.before.before.before.before.before) sure in let op = Op.Yield a.pc a.dst a.src in
     switch-one (of c.before.before.before.before.before.before.before.before.before.before.before.before.before.before.before.before.before.before.before.before.before.before.before.before.before.before.before.before.before.before.before.before.before.before.before.before.before.before.before.before.before.before.before.before.before) sure op (yield-typed a.pc a.dst a.src c.requires.narrow (omega (arith, short, may.dst-in)) (omega (arith, short, may.src-in)))
     (all_words 3 a.pc a.dst a.src 0 0 (omega arith) w.pc.fits w.dst.fits w.src.fits (omega arith) (omega arith)) a.answers.now _ a.i _

@@ -22,8 +22,8 @@ use Rattle.linked_switch.proofs.enters.may_enter.Goals as goal
 abbrev After-coro_place : Type 0
 After-coro_place = lts.After-coro_place tie.the-claims reads.Pre reads.Post
 
-abbrev In-At-2 : Type 0
-In-At-2 = lts.After-i tie.the-claims reads.Pre reads.Post
+abbrev In-At : Type 0
+In-At = lts.Past-After-known_told tie.the-claims reads.Pre reads.Post
 
 abbrev After-is_resumable : Type 0
 After-is_resumable = lts.After-is_resumable tie.the-claims reads.Pre reads.Post
@@ -35,11 +35,11 @@ named c =
     c.coro_place.ensures ∙ ap (λ b. place_of (coro_of (slots_of (machine_in a.machine.now).count a.slots.now) (get_or a.stack.now (b + a.c) 0)))
     c.base_at-base.ensures
 
-found : (c : In-At-2) → let a = c.args in L.At c.in-At.i ≡ to_enter a.stack.now a.frames.now a.slots.now a.machine.now a.c
-found c = sym c.in-At.is ∙ named c.before.before
+found : (c : In-At) → let a = c.args in L.At c.in-At.i ≡ to_enter a.stack.now a.frames.now a.slots.now a.machine.now a.c
+found c = sym c.in-At.is ∙ named c.before
 
 -- its slot lies in the slice
-slot : (c : In-At-2) → SlotFits c.args.slots.now c.in-At.i
+slot : (c : In-At) → SlotFits c.args.slots.now c.in-At.i
 slot c =
     let a = c.args in
     stands-words (machine_in a.machine.now).count a.slots.now (get_or a.stack.now (top_in a.frames.now a.machine.now + a.c) 0) c.in-At.i (found c) c.requires.in-slots

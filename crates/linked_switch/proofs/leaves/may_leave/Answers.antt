@@ -1,4 +1,5 @@
 -- `may_leave` meets its contract: each test that fails is one of the definition's, and those that are passed tell their part. Assumes nothing.
+use borrow.Enum.Refused.{opened}
 use mathlib.Core.Path.{◌≡◌, sym, ap, ◌∙◌}
 use Prim.Native.Nat.{◌≤◌, ◌<◌}
 use native.Mathlib.Omega.{arith}
@@ -26,8 +27,8 @@ After-active_at-a = lts.After-active_at tie.the-claims reads.Pre reads.Post
 abbrev After-coro_place : Type 0
 After-coro_place = lts.After-coro_place tie.the-claims reads.Pre reads.Post
 
-abbrev In-At-2 : Type 0
-In-At-2 = lts.After-i tie.the-claims reads.Pre reads.Post
+abbrev In-At : Type 0
+In-At = lts.Past-After-known_told2 tie.the-claims reads.Pre reads.Post
 
 abbrev After-base_at-base : Type 0
 After-base_at-base = lts.After-base_at2 tie.the-claims reads.Pre reads.Post
@@ -41,11 +42,11 @@ named c =
     let a = c.args in
     c.coro_place.ensures ∙ ap (λ (x : Active). place_of (coro_of (slots_of (machine_in a.machine.now).count a.slots.now) x.coro)) c.active_at-a.ensures
 
-found : (c : In-At-2) → let a = c.args in L.At c.in-At.i ≡ to_leave a.chain.now a.slots.now a.machine.now
-found c = sym c.in-At.is ∙ named c.before.before
+found : (c : In-At) → let a = c.args in L.At c.in-At.i ≡ to_leave a.chain.now a.slots.now a.machine.now
+found c = sym c.in-At.is ∙ named c.before
 
 -- its slot lies in the slice
-slot : (c : In-At-2) → SlotFits c.args.slots.now c.in-At.i
+slot : (c : In-At) → SlotFits c.args.slots.now c.in-At.i
 slot c =
     let a = c.args in
     stands-words (machine_in a.machine.now).count a.slots.now (innermost_in a.chain.now (machine_in a.machine.now)).coro c.in-At.i (found c) c.requires.in-slots
@@ -70,7 +71,7 @@ next-key : (c : After-next_key) → c.next_key.result ≡ next_key (record_at c.
 next-key c = c.next_key.ensures ∙ ap next_key c.largest_at.ensures
 
 -- a Resume waits for it
-by-resume : (c : In-At-2) → c.active_at-a.result.driver ≡ Driver.Resume c.in-Resume.to
+by-resume : (c : In-At) → c.active_at-a.result.driver ≡ Driver.Resume c.in-Resume.to
 by-resume c = c.in-Resume.is
 
 pub returns-then-machine-eq0 : goal.returns-then-machine-eq0
@@ -92,7 +93,7 @@ pub returns-then-width-src : goal.returns-then-width-src
 returns-then-width-src c = no_src (omega arith)
 
 pub returns-in_default : goal.returns-in_default
-returns-in_default c = no-resume (ap (λ (x : Active). by_resume x.driver) (sym c.active_at-a.ensures) ∙ not-resume c.active_at-a.result.driver c.in_default.in_default-own.keys2)
+returns-in_default c = no-resume (ap (λ (x : Active). by_resume x.driver) (sym c.active_at-a.ensures) ∙ not-resume c.active_at-a.result.driver (opened c.in_default.in_default-own.keys2))
 
 pub bounds-machine-3 : goal.bounds-machine-3
 bounds-machine-3 c = let h = c.requires.words in omega (arith, h)
@@ -144,10 +145,10 @@ pub returns-in-Not : goal.returns-in-Not
 returns-in-Not c = no_place (sym c.in-Not.is ∙ named c.before.before)
 
 pub returns-in-Over : goal.returns-in-Over
-returns-in-Over c = no_key (found c.before.before) (sym c.in-Over.is ∙ next-key c.before.before)
+returns-in-Over c = no_key (found c.before.before.before.before.before.before.before.before.before.before.before.before.before.before) (sym c.in-Over.is ∙ next-key c.before.before)
 
 pub returns-in-Large : goal.returns-in-Large
-returns-in-Large c = no_word (found c.before.before.before.before.before.before) (sym c.in-Fits.is ∙ next-key c.before.before.before.before) (sym c.in-Large.is ∙ c.inline_int.ensures)
+returns-in-Large c = no_word (found c.before.before.before.before.before.before.before.before.before.before.before.before.before.before.before.before) (sym c.in-Fits.is ∙ next-key c.before.before.before.before) (sym c.in-Large.is ∙ c.inline_int.ensures)
 
 pub returns-in-At-inline_int : goal.returns-in-At-inline_int
 returns-in-At-inline_int c =
@@ -155,7 +156,7 @@ returns-in-At-inline_int c =
     let low = c.base_at-low.ensures in let above = c.if-machine-low.false in
     let run = runs c.before.before.before.before.before.before.before.before.before.before.before.before.before.before.before.before.before.before.before.before in let e = based c.before.before.before.before.before.before.before.before.before.before.before.before.before in let f = ap (λ (x : Active). x.floor) is in
     let wide = c.maxregs_at.ensures in let deep = c.maxframes_at.ensures in
-    at_slot (found c.before.before.before.before.before.before.before.before.before.before.before.before.before.before.before.before.before.before.before.before)
+    at_slot (found c.before.before.before.before.before.before.before.before.before.before.before.before.before.before.before.before)
     (record {
       some = some-active _ c.if-machine-eq0.false;
       paid = some-active _ c.if-fuel-eq0.false;
@@ -165,7 +166,7 @@ returns-in-At-inline_int c =
           record {
             running = run;
             floor = c.requires.floor run;
-            found = found c.before.before.before.before.before.before.before.before.before.before.before.before.before.before.before.before.before.before.before.before;
+            found = found c.before.before.before.before.before.before.before.before.before.before.before.before.before.before.before.before;
             unclosed = sym c.closing_at.ensures ∙ c.if-closing_at.false;
             wide = omega (arith, e, wide, c.if-maxregs_at-machine.false);
             deep = omega (arith, f, deep, c.if-maxframes_at-machine.false);
@@ -175,5 +176,5 @@ returns-in-At-inline_int c =
             next = sym c.in-Fits.is ∙ next-key c.before.before.before.before;
             inline = sym c.in-At-inline_int.is ∙ c.inline_int.ensures;
           };
-      driven = ap (λ (x : Active). x.driver) (sym is) ∙ by-resume c.before.before.before.before.before.before.before.before.before.before.before.before.before.before.before.before.before.before.before.before;
+      driven = ap (λ (x : Active). x.driver) (sym is) ∙ by-resume c.before.before.before.before.before.before.before.before.before.before.before.before.before.before.before.before;
     })

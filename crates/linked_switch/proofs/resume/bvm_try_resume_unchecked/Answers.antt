@@ -32,7 +32,7 @@ pub may_enter-requires : goal.may_enter-requires
 may_enter-requires c = enters-fit (of c.before.before.before.before.before.before.before.before.before.before) c.requires.sound
 
 pub resume_at-requires : goal.resume_at-requires
-resume_at-requires c = record { held = holds (of c.before.before.before.before.before.before.before.before.before.before.before.before.before.before.before.before.before.before.before) c.requires.sound c.args.pc c.fits.pc.fits; enterable = c.may_enter.ensures.at _ _ c.in-At.is }
+resume_at-requires c = record { held = holds (of c.before.before.before.before.before.before.before.before.before.before.before.before.before.before.before.before.before.before.before) c.requires.sound c.args.pc c.ranges.pc.fits; enterable = c.may_enter.ensures.at _ _ c.in-At.is }
 
 pub returns-in-At : goal.returns-in-At
 returns-in-At c =

@@ -32,7 +32,7 @@ pub may_leave-requires : goal.may_leave-requires
 may_leave-requires c = leaves-fit (of c.before.before.before.before.before.before.before.before.before.before) c.requires.sound
 
 pub yield_at-requires : goal.yield_at-requires
-yield_at-requires c = record { held = holds (of c.before.before.before.before.before.before.before.before.before.before.before.before.before.before.before.before.before.before.before) c.requires.sound c.args.pc c.fits.pc.fits; leavable = c.may_leave.ensures.at _ _ _ _ c.in-At.is }
+yield_at-requires c = record { held = holds (of c.before.before.before.before.before.before.before.before.before.before.before.before.before.before.before.before.before.before.before) c.requires.sound c.args.pc c.ranges.pc.fits; leavable = c.may_leave.ensures.at _ _ _ _ c.in-At.is }
 
 pub returns-in-At : goal.returns-in-At
 returns-in-At c =
