@@ -56,11 +56,11 @@ loop-i-smaller c = let t = c.loop-i-test.true in omega (arith, t)
 
 pub loop-i-preserved : goal.loop-i-preserved
 loop-i-preserved c =
-    let a = c.args in let k = c.one.auto in let q = k.1.1.1.1 in
+    let a = c.args in let k = c.one.auto in
     going_more (at-start c.before.before.before.before.before.before.before.before.before.before.before.before.before.before.before.before.before.before.before.before.before.before.before.before.before.before.before.before.before.before.before.before.before.before.before.before.before.before.before.before.before.before.before.before.before.before.before.before.before.before) a.calls.now a.answers.now a.n (at-loop c.before.before.before.before.before.before.before.before.before.before.before.before.before.before.before.before.before.before.before.before.before.before.before.before.before.before.before.before.before.before.before.before.before.before.before.before) c.loop-i.answers c.loop-i.i c.loop-i.invariant c.loop-i-test.true c.requires.room
     (left_by c.before.before.before.before.before.before.before.before.before.before.before.before.before.before.before.before.before.before.before.before.before.before.before) _ c.one.ensures
-    (record { stack = k.stack; frames = k.frames; chain = k.chain; slots = k.slots; saved_stack = q.0; saved_frames = q.1.0; ready = q.1.1.0; finalize = q.1.1.1.0; setup = refl })
-    refl q.1.1.1.1.1.0 q.1.1.1.1.1.1.0 q.1.1.1.1.1.1.1.1.0
+    (record { stack = k.stack; frames = k.frames; chain = k.chain; slots = k.slots; saved_stack = k.saved_stack; saved_frames = k.saved_frames; ready = k.ready; finalize = k.finalize; setup = refl })
+    refl k.machine k.fuel k.answers
 
 pub returns : goal.returns
 returns c =

@@ -118,7 +118,7 @@ shape_of-answers-in-Resume c = c.resume_call.auto.answers
 pub returns-in-Resume : goal.returns-in-Resume
 returns-in-Resume c =
     let is = c.route_of.ensures.resume c.in-Resume.is in
-    of-read (read_as c.before.before.before.before.before.before.before.before.before.before.before.before.before.before.before.before.before.before.before.before.before.before.before is.0 refl is.2) c.resume_call.ensures
+    of-read (read_as c.before.before.before.before.before.before.before.before.before.before.before.before.before.before.before.before.before.before.before.before.before.before.before.before.before.before.before.before.before.before.before.before.before.before.before.before.before is.0 refl is.2) c.resume_call.ensures
 
 pub shape_of-stack-in-Yield : goal.shape_of-stack-in-Yield
 shape_of-stack-in-Yield c = c.yield_call.auto.stack
@@ -156,7 +156,7 @@ shape_of-answers-in-Yield c = c.yield_call.auto.answers
 pub returns-in-Yield : goal.returns-in-Yield
 returns-in-Yield c =
     let is = c.route_of.ensures.yield c.in-Yield.is in
-    of-read (read_as c.before.before.before.before.before.before.before.before.before.before.before.before.before.before.before.before.before.before.before.before.before.before.before is.0 is.2 is.3) c.yield_call.ensures
+    of-read (read_as c.before.before.before.before.before.before.before.before.before.before.before.before.before.before.before.before.before.before.before.before.before.before.before.before.before.before.before.before.before.before.before.before.before.before.before.before.before is.0 is.2 is.3) c.yield_call.ensures
 
 pub shape_of-stack-in-General : goal.shape_of-stack-in-General
 shape_of-stack-in-General c = c.general_at.auto.stack
@@ -193,5 +193,5 @@ shape_of-answers-in-General c = c.general_at.auto.answers
 
 pub returns-in-General : goal.returns-in-General
 returns-in-General c =
-    of-read (read_as c.before.before.before.before.before.before.before.before.before.before.before.before.before.before.before.before.before.before.before.before.before.before.before refl refl refl)
+    of-read (read_as c.before.before.before.before.before.before.before.before.before.before.before.before.before.before.before.before.before.before.before.before.before.before.before.before.before.before.before.before.before.before.before.before.before.before.before.before.before refl refl refl)
     c.general_at.ensures
