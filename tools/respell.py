@@ -1,7 +1,7 @@
 #!/usr/bin/env python3
 """Spells this repository's own names of definitions, lemmas, fields and variables in snake case, as today's Rattle does.
 
-usage: tools/respell.py [--check] [FOLDER]      after /opt/rattle/port/port.py, once; FOLDER is the repository, else this one
+usage: tools/respell.py [--check] [FOLDER]      after the kit's port.py, once; FOLDER is the repository, else this one
 
 A name of antt that begins with a small letter and has a capital in it (`abortCoros`, `yieldKv-agree`) gets underscores (`abort_coros`,
 `yield_kv-agree`), in crates/*/specs, crates/*/proofs, in the clauses and comments of crates/*/src and in crates/*/must-fail. Types, modules and
