@@ -76,7 +76,7 @@ return-told Driver.Finalize x w = record { setup = refl; under = refl; chain = r
 
 pub data SuspendCase (s : CoroState) (dst x : ℕ) (keys : Keys) (t : World) : After Suspension → Type 0 where
   z-in : (a : Active) (chain : List Active) (k : Core) (r : Rest) → t.chain ≡ a ∷ chain → coro t a.coro ≡ Is k r
-      → SuspendCase s dst x keys t (after (Coro.put_sleep a chain (saved s dst a.floor t) x keys r t) (Suspension.Done a.driver (Coro.event_of s x (set_keys keys r))))
+      → SuspendCase s dst x keys t (after (Coro.put_to_sleep a chain (saved s dst a.floor t) x keys r t) (Suspension.Done a.driver (Coro.event_of s x (set_keys keys r))))
   z-out : (f : Fault) → SuspendCase s dst x keys t (after t (Suspension.Refused f))
 
 pub suspend-case : (s : CoroState) (dst x : ℕ) (keys : Keys) (t : World) → SuspendCase s dst x keys t (coro_suspend s dst x keys t)
@@ -84,7 +84,7 @@ unfolding coro_suspend pick
 suspend-case s dst x keys t = go t.chain refl
   where
     fit : (a : Active) (chain : List Active) (k : Core) (r : Rest) → t.chain ≡ a ∷ chain → coro t a.coro ≡ Is k r → (b : Bool)
-        → SuspendCase s dst x keys t (pick b (after t (Suspension.Refused Fault.OutOfMemory)) (after (Coro.put_sleep a chain (saved s dst a.floor t) x keys r t) (Suspension.Done a.driver (Coro.event_of s x (set_keys keys r)))))
+        → SuspendCase s dst x keys t (pick b (after t (Suspension.Refused Fault.OutOfMemory)) (after (Coro.put_to_sleep a chain (saved s dst a.floor t) x keys r t) (Suspension.Done a.driver (Coro.event_of s x (set_keys keys r)))))
     fit a chain k r e h true = z-out Fault.OutOfMemory
     fit a chain k r e h false = z-in a chain k r e h
 
@@ -146,7 +146,7 @@ suspend-arm p s h dst x keys v u g = go (coro_suspend s dst x keys t) (suspend-c
         m = Coro.event_of s x (set_keys keys r)
 
         y : World
-        y = Coro.put_sleep a chain (saved s dst a.floor t) x keys r t
+        y = Coro.put_to_sleep a chain (saved s dst a.floor t) x keys r t
 
         d : Delivered a.driver (told m) y (deliver a.driver m y).world
         d = deliver-told a.driver m y

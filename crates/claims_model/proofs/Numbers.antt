@@ -117,10 +117,10 @@ suspend-number pc s dst x keys v there = go v.chain refl
     found a chain e Absent q = no_both (there a chain e) (ap (λ y. is_running (core_in y).state) q)
     found a chain e (Is k r) q = test (not (fits t (growth t (saved s dst a.floor t) r)))
       where
-        test : (b : Bool) → Suits (pick b (after t (Suspension.Refused Fault.OutOfMemory)) (after (Coro.put_sleep a chain (saved s dst a.floor t) x keys r t) (Suspension.Done a.driver (Coro.event_of s x (set_keys keys r)))))
+        test : (b : Bool) → Suits (pick b (after t (Suspension.Refused Fault.OutOfMemory)) (after (Coro.put_to_sleep a chain (saved s dst a.floor t) x keys r t) (Suspension.Done a.driver (Coro.event_of s x (set_keys keys r)))))
         test true = untold refl
         test false =
-            let z = Coro.put_sleep a chain (saved s dst a.floor t) x keys r t in
+            let z = Coro.put_to_sleep a chain (saved s dst a.floor t) x keys r t in
             record {
               ok = delivered-number a.driver (Coro.event_of s x (set_keys keys r)) z;
               which = λ _. delivered-told a.driver (is_awaiting s) (set_keys keys r).closing x (set_keys keys r).key z

@@ -151,8 +151,8 @@ module _ (w : World) (n c : ℕ) (m : Roomy steps n c w) where
     unfolding most_words most_frames
     found Absent q = let z : ◌≡◌ {A = ℕ} 0 1 = cc in absurd (omega arith)
     found (Is k r) q =
-        ap (λ b. taken (pick (not b) (after v (Suspension.Refused Fault.OutOfMemory)) (after (Coro.put_sleep a m.held.outer K x keys r v) (Suspension.Done a.driver (Coro.event_of st x (Coro.set_keys keys r))))).answer) (fits-still r (sym (ap most_words q)) (sym (ap most_frames q)))
-        ∙ ap (λ (y : After Suspension). taken y.answer) (pick-false (after v (Suspension.Refused Fault.OutOfMemory)) (after (Coro.put_sleep a m.held.outer K x keys r v) (Suspension.Done a.driver (Coro.event_of st x (Coro.set_keys keys r)))))
+        ap (λ b. taken (pick (not b) (after v (Suspension.Refused Fault.OutOfMemory)) (after (Coro.put_to_sleep a m.held.outer K x keys r v) (Suspension.Done a.driver (Coro.event_of st x (Coro.set_keys keys r))))).answer) (fits-still r (sym (ap most_words q)) (sym (ap most_frames q)))
+        ∙ ap (λ (y : After Suspension). taken y.answer) (pick-false (after v (Suspension.Refused Fault.OutOfMemory)) (after (Coro.put_to_sleep a m.held.outer K x keys r v) (Suspension.Done a.driver (Coro.event_of st x (Coro.set_keys keys r)))))
 
     accepted : tries pc st dst x u keys ≡ true
     unfolding coro_suspend

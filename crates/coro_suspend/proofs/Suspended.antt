@@ -29,7 +29,7 @@ use Rattle.model.specs.Object.{Core, Rest, Object, with_payload}
 use Rattle.model.specs.World.{World, After, after}
 use Rattle.model.specs.Frames.{lower, above, below, base_at}
 use Rattle.model.specs.Heap.{coro, fits}
-use Rattle.model.specs.Coro.{saved, sized, growth, set_keys, unclose, event_of, put_sleep, suspend_coroutine, suspend_innermost, coro_suspend}
+use Rattle.model.specs.Coro.{saved, sized, growth, set_keys, unclose, event_of, put_to_sleep, suspend_coroutine, suspend_innermost, coro_suspend}
 use Rattle.model.specs.Sound.{row_words, sound}
 use Rattle.model.specs.declared.coro.Event.{Event}
 use Rattle.model.specs.declared.coro.Keys.{Keys}
@@ -164,7 +164,7 @@ module _ (l : Sizes) (M : Lent) (m : Machine) (f : Fuel) (st : CoroState) (dst p
         lacking = after w (Suspension.Refused Fault.OutOfMemory)
 
         abbrev left : After Suspension
-        left = after (put_sleep a rest k' payload keys r w) (Suspension.Done a.driver (event_of st payload (set_keys keys r)))
+        left = after (put_to_sleep a rest k' payload keys r w) (Suspension.Done a.driver (event_of st payload (set_keys keys r)))
 
         model-found : goal ≡ pick (not (fits w (growth w k' r))) lacking left
         model-found = model-deep ∙ ap (λ x. suspend_coroutine x a rest k' payload keys w) in-world.coro
@@ -277,7 +277,7 @@ module _ (l : Sizes) (M : Lent) (m : Machine) (f : Fuel) (st : CoroState) (dst p
             row_same : r'.row ≡ r.row
             row_same = ap (λ x. x.row) (suspended-is k k' r payload keys)
 
-            slots-after : slots' ≡ put_slot M.slots i (slot (tag_of a.coro) (O.Coro d)) → Slots (to_slots (put_sleep a rest k' payload keys r w).slots) slots' m.count
+            slots-after : slots' ≡ put_slot M.slots i (slot (tag_of a.coro) (O.Coro d)) → Slots (to_slots (put_to_sleep a rest k' payload keys r w).slots) slots' m.count
             slots-after e =
                 let v = a.coro in
                 let y : Slot H.Object = slot (tag_of v) (O.Coro d) in
@@ -310,9 +310,9 @@ module _ (l : Sizes) (M : Lent) (m : Machine) (f : Fuel) (st : CoroState) (dst p
                 let on : StackLeft (row_words s) base w.stack rs r.row stack' saved_stack' = moves.on-stack (row_words s) w.stack rs r.row rep.stack rep.saved_stack regs-is wide in
                 let up : FramesLeft (frames_size s) a.floor base w.frames gs r.row frames' saved_frames' = moves.on-frames (frames_size s) w.frames gs r.row rep.frames rep.saved_frames frames-is tall in
                 let answer = Suspension.Done a.driver (event_as st payload c.closing (key_of keys c.key)) in
-                does l M' (shrunk m base a.floor g.used) f goal (put_sleep a rest k' payload keys r w) answer
+                does l M' (shrunk m base a.floor g.used) f goal (put_to_sleep a rest k' payload keys r w) answer
                 (model-found ∙ ap (λ t. pick (not t) lacking left) (sym fits-is ∙ pay.0) ∙ pick-false _ _
-                ∙ ap (λ t. after (put_sleep a rest k' payload keys r w) (Suspension.Done a.driver t)) event-same)
+                ∙ ap (λ t. after (put_to_sleep a rest k' payload keys r w) (Suspension.Done a.driver t)) event-same)
                 (turn-slots l _ _ _ f
                 (turn-chain l _ _ _ f
                 (turn-frames l _ _ _ f
@@ -320,7 +320,7 @@ module _ (l : Sizes) (M : Lent) (m : Machine) (f : Fuel) (st : CoroState) (dst p
                 (take b w.stack) stack' base (subst (λ n. Stack (take n w.stack) stack' base) base-is on.stack))
                 (below a.floor w.frames) frames' a.floor up.frames)
                 rest chain' (m.active - 1) (pop w.chain rep.chain))
-                (put_sleep a rest k' payload keys r w).slots slots' saved_stack' saved_frames' m.count (slots-after mark)
+                (put_to_sleep a rest k' payload keys r w).slots slots' saved_stack' saved_frames' m.count (slots-after mark)
                 (subst (λ z. SavedStack (row_words s) z saved_stack')
                 (ap (λ n. set rs r.row (drop n w.stack)) base-is ∙ regs-set w.slots a.coro k r known.points known.own known.live k' r' row_same held s.limits.rows) on.saved)
                 (subst (λ z. SavedFrames (frames_size s) z saved_frames')

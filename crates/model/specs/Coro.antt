@@ -124,8 +124,8 @@ unclose s r = pick (not (is_awaiting s) && r.closing) (with_closing false (with_
 abbrev pub event_of : CoroState → ℕ → Rest → Event
 event_of s payload r = pick (is_awaiting s) (Event.Awaiting payload) (pick r.closing Event.CloseIgnored (Event.Yielded payload r.key))
 
-abbrev pub put_sleep : Active → List Active → Core → ℕ → Keys → Rest → World → World
-put_sleep a chain k payload key r w =
+abbrev pub put_to_sleep : Active → List Active → Core → ℕ → Keys → Rest → World → World
+put_to_sleep a chain k payload key r w =
     set_coro a.coro k (unclose k.state (set_keys key (with_payload payload (sized k r))))
     (with_chain chain
     (with_frames (below a.floor w.frames)
@@ -136,7 +136,7 @@ abbrev pub suspend_coroutine : Coroutine → Active → List Active → Core →
 suspend_coroutine Absent a chain k payload key w = after w (Suspension.Refused Fault.TypeError)
 suspend_coroutine (Is _ r) a chain k payload key w =
     pick (not (fits w (growth w k r))) (after w (Suspension.Refused Fault.OutOfMemory))
-    (after (put_sleep a chain k payload key r w) (Suspension.Done a.driver (event_of k.state payload (set_keys key r))))
+    (after (put_to_sleep a chain k payload key r w) (Suspension.Done a.driver (event_of k.state payload (set_keys key r))))
 
 abbrev pub suspend_innermost : List Active → CoroState → ℕ → ℕ → Keys → World → After Suspension
 suspend_innermost [] state dst payload key w = after w (Suspension.Refused Fault.CannotSuspend)
