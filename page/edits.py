@@ -1,23 +1,37 @@
 """The must-fail edits: what each changes, which facts it names, and what refused it.
 
 tests/edits                    after ./test's `rt ci`: by what that printed (target/ci.log) each edit was refused, none is bad, none only because a file of proofs/ names
-                               what it took away, and none only by a limit; and every public function is named by two wrong answers or more
-tests/edits facts [CRATE..]    tries the edits of these crates, or of all, again, over what `rt check` kept in out/; leaves all that the prover says of each in
-                               target/must-fail/CRATE/EDIT.log; and looks up each fact there that a `refutes:` line names. It has to be refused itself
+                               what it took away, and none only by a limit; every public function is named by two wrong answers or more; and each fact was refused
+                               itself: of the edits that tests/edits.txt doesn't have with the files that are here, and of those of SAMPLE crates, it tries the facts
+tests/edits facts [CRATE..]    tries the edits of these crates, or of all, again, over what `rt check` kept in out/ or else what `rt ci` left there; leaves all that the
+                               prover says of each in target/must-fail/CRATE/EDIT.log; and looks up each fact there that a `refutes:` line names. It has to be refused
+                               itself. An edit of which all facts are gets its line in tests/edits.txt, and another loses it
 
 A fact is FOLDER/Answers:GOAL, a goal of the function whose proof stands in proofs/FOLDER (also where the prover finds that proof by itself); FOLDER, any of its
 goals; or FILE:NAME, a theorem of the crate's FILE.antt. It does not count that something under it was refused, or that the edit took a point of the code away by which
 the proof finds its facts, or moved it: LOST."""
+import functools
+import hashlib
+import importlib.machinery
+import importlib.util
+import inspect
 import os
 import re
 import shutil
+import subprocess
 import sys
+import time
 from concurrent.futures import ThreadPoolExecutor
 from pathlib import Path
 
 sys.dont_write_bytecode = True
 ROOT = Path(__file__).resolve().parent.parent
 TARGET = ROOT / "target"
+RECORD = ROOT / "tests" / "edits.txt"
+HEAD = """# The edits of which every fact was seen refused itself, by `tests/edits facts`, which writes this file: crate and edit, its facts, and the sum of all that this rests on:
+# the toolchain's name, how a fact is looked up (page/edits.py), the edit, the files of its crate and of those below. Where a sum differs, tests/edits tries the edit again.
+"""
+SAMPLE = 3
 LOST = re.compile(r"was not admitted|declarations? that depends? on|has no (?:field )?`|is not in scope|expected type `(?:tie|[^ `]*\.Lts)\.[A-Za-z0-9·-]+|one has `[^ `]*\.Lts\.[A-Za-z0-9·-]+` *\(expected\)")
 SAID = re.compile(r"^rt: must-fail (\w+)/(\S+)\.edit: (refused, as it must be|[A-Z ]+)(.*)$")
 
@@ -97,14 +111,14 @@ def functions():
 
 
 def unnamed():
-    """Public functions that fewer than two wrong answers name. A crate NAME_c has only exports that call the function of the same name with its clauses (tests/rules compares them)."""
+    """Public functions that fewer than two wrong answers name. A static library has only exports that call the function of the same name with its clauses (tests/rules compares them)."""
     named = {}
     for one in edits():
         for fact in one.facts:
             named.setdefault(one.crate, []).append(re.sub(r"/(?:Answers|Invariants|Proof)(?::.*)?$|:.*$", "", fact))
     for crate, file, place, is_method in functions():
         wanted = rf"(?:.*/)?{re.escape(place)}" if is_method else re.escape(place)
-        if not crate.endswith("_c") and sum(1 for one in named.get(crate, []) if re.fullmatch(wanted, one)) < 2:
+        if not crates()[crate][1] and sum(1 for one in named.get(crate, []) if re.fullmatch(wanted, one)) < 2:
             yield f"{file}: {place.split('/')[-1]} is named by fewer than two wrong answers"
 
 
@@ -123,78 +137,153 @@ def as_printed():
             yield f"{crate}/{name}: {verdict}{rest and ' ' + rest[:300]}"
 
 
-def kit():
-    """The kit's rt, as a module."""
-    import importlib.machinery
-    import importlib.util
-    loader = importlib.machinery.SourceFileLoader("rt_of_kit", os.path.realpath(shutil.which("rt") or sys.exit("edits: rt, the Rattle toolchain, is not here")))
-    made = importlib.util.module_from_spec(importlib.util.spec_from_loader("rt_of_kit", loader))
+@functools.cache
+def crates():
+    """Each crate of crates.txt with all that it rests on, itself among them, and whether it is a static library."""
+    found = {}
+    for row in (ROOT / "crates.txt").read_text().splitlines():
+        if hit := re.match(r"(\w+)( staticlib)?:([^#]*)", row):
+            found[hit[1]] = {hit[1]}.union(*(found.get(one, ({one},))[0] for one in hit[3].split())), bool(hit[2])
+    return found
+
+
+@functools.cache
+def sum_of(crate):
+    """The sum of the crate's own files that the prover reads."""
+    read = hashlib.sha256()
+    folder = ROOT / "crates" / crate
+    for path in sorted(one for part in ("src", "specs", "proofs") for one in (folder / part).rglob("*") if one.is_file()):
+        read.update(f"{path.relative_to(folder)} {hashlib.sha256(path.read_bytes()).hexdigest()}\n".encode())
+    return read.hexdigest()
+
+
+def line_of(edit):
+    """The line of an edit in the record."""
+    judge = inspect.getsource(refused_at) + LOST.pattern
+    read = hashlib.sha256((ROOT / "toolchain").read_bytes() + judge.encode() + edit.path.read_bytes())
+    for crate in sorted(crates()[edit.crate][0]):
+        read.update(f"{crate} {sum_of(crate)}\n".encode())
+    return f"{edit.crate}/{edit.name} {len(edit.facts)} {read.hexdigest()}"
+
+
+def lines():
+    """The lines that edits have with the files that are here, by crate and edit."""
+    sum_of.cache_clear()
+    return {f"{one.crate}/{one.name}": line_of(one) for one in edits()}
+
+
+def recorded():
+    """The lines of the record, by crate and edit."""
+    return {row.split()[0]: row for row in RECORD.read_text().splitlines() if row and row[0] != "#"} if RECORD.exists() else {}
+
+
+def to_try():
+    """The crates of the edits that the record has not as they are, and SAMPLE others, which the sum of all lines chooses: other files, another choice."""
+    kept, here = recorded(), lines()
+    stale = {name.split("/")[0] for name in here if kept.get(name) != here[name]}
+    order = hashlib.sha256("".join(sorted(here.values())).encode()).hexdigest()
+    others = sorted({one.crate for one in edits()} - stale, key=lambda crate: hashlib.sha256((order + crate).encode()).hexdigest())
+    return stale, others[:SAMPLE]
+
+
+def record(crate, before, failed):
+    """Writes the record's lines of a crate that was tried. An edit gets one if each of its facts was refused, and its files are those of before the try."""
+    kept, here = recorded(), lines()
+    for name in sorted(kept.keys() | here.keys()):
+        if name not in here or name.split("/")[0] == crate:
+            kept.pop(name, None)
+            if name in here and here[name] == before.get(name) and not any(text.startswith(f"{name} ") for text in failed):
+                kept[name] = here[name]
+    RECORD.write_text(HEAD + "".join(f"{kept[name]}\n" for name in sorted(kept)))
+
+
+def over():
+    """tests/over as a module: the kit's rt, over libraries that stand built."""
+    loader = importlib.machinery.SourceFileLoader("over", str(ROOT / "tests" / "over"))
+    made = importlib.util.module_from_spec(importlib.util.spec_from_loader("over", loader))
     loader.exec_module(made)
     return made
 
 
-def try_all(crates):
-    """Tries the edits of the crates with the kit's own check of an edit, and keeps all that it says."""
-    rt = kit()
-    os.chdir(ROOT)
-    rt.rtlib.guarded()
-    rt.rtlib.Crate = rt.Crate
-    known = {one.name: one for one in rt.rtlib.crates_below(str(ROOT))}
-    for crate in crates:
-        found, of = [one for one in edits() if one.crate == crate], known[crate]
-        lacking = [below.name for below in of.below() if not below.is_built()]
-        if lacking:
-            sys.exit(f"edits: {crate} stands on libraries that rt has not built here: {' '.join(lacking)}: run rt check in crates/{crate} first")
-        kept = f"{of.folder}/out/incremental"
-        room = rt.seeded(of, ["--jobs", "2"], kept if os.path.isdir(kept) else None) if found else None
-        if found and not room:
-            sys.exit(f"edits: {crate} is not proved as it stands")
+def try_edits(tool, rt, of):
+    """Tries the edits of a crate with the kit's own check of an edit, and keeps all that it says."""
+    begun = time.monotonic()
+    found = [one for one in edits() if one.crate == of.name]
+    tool.build_below([of])
+    kept = f"{of.folder}/out/incremental"
+    room = rt.seeded(of, ["--jobs", "2"], kept if os.path.isdir(kept) else None)
+    if not room:
+        sys.exit(f"edits: {of.name} is not proved as it stands")
 
-        def one(at, edit):
-            texts, why = rt.read_edit(str(edit.path), of.folder)
-            if texts:
-                over = f"{room}/{at}"
-                rt.linked(f"{room}/seed", over)
-                why = rt.checked(of, texts, ["--jobs", "1"], over).stdout
-                shutil.rmtree(over, ignore_errors=True)
-            edit.log.parent.mkdir(parents=True, exist_ok=True)
-            edit.log.write_text(why)
+    def one(at, edit):
+        texts, why = rt.read_edit(str(edit.path), of.folder)
+        if texts:
+            copy = f"{room}/{at}"
+            rt.linked(f"{room}/seed", copy)
+            why = rt.checked(of, texts, ["--jobs", "1"], copy).stdout
+            shutil.rmtree(copy, ignore_errors=True)
+        edit.log.parent.mkdir(parents=True, exist_ok=True)
+        edit.log.write_text(why)
 
-        at_once = max(1, min(rt.processors(), int(0.85 * rt.free() / rt.need(of))))
-        try:
-            with ThreadPoolExecutor(at_once) as pool:
-                list(pool.map(one, range(len(found)), found))
-        finally:
-            shutil.rmtree(room or "", ignore_errors=True)
-        print(f"edits: {crate}: {len(found)} tried", flush=True)
+    at_once = max(1, min(rt.processors(), int(0.85 * rt.free() / rt.need(of))))
+    try:
+        with ThreadPoolExecutor(at_once) as pool:
+            list(pool.map(one, range(len(found)), found))
+    finally:
+        shutil.rmtree(room, ignore_errors=True)
+    print(f"edits: {of.name}: {len(found)} tried, {time.monotonic() - begun:.0f} s", flush=True)
 
 
-def of_facts(crates):
+def not_refuted(crate):
+    """The facts of a crate's edits that the prover did not refuse itself."""
     for one in edits():
-        if one.crate not in crates:
+        if one.crate != crate:
             continue
         if not one.facts:
-            yield f"{one.crate}/{one.name} names no fact"
+            yield f"{crate}/{one.name} names no fact"
         for fact in one.facts:
-            hit = refused_at(one.crate, fact, one.rows())
+            hit = refused_at(crate, fact, one.rows())
             if not (hit and hit[3]):
-                yield f"{one.crate}/{one.name} did not refute {fact}{': ' + hit[2][:200] if hit else ''} (see {one.log.relative_to(ROOT)})"
+                yield f"{crate}/{one.name} did not refute {fact}{': ' + hit[2][:200] if hit else ''} (see {one.log.relative_to(ROOT)})"
+
+
+def of_facts(tried):
+    """Tries the edits of the crates, looks up their facts, and writes the record."""
+    wanted, found = (ROOT / "toolchain").read_text().strip(), subprocess.run(["rt", "version"], stdout=subprocess.PIPE, text=True).stdout.strip()
+    if wanted != found:
+        sys.exit(f"edits: this is {found}; the file toolchain names {wanted}")
+    tool = over()
+    rt = tool.load()
+    known = tool.crates_of(rt, str(ROOT))
+    rt.rtlib.guarded()
+    all_failed = []
+    for crate in tried:
+        before = lines()
+        try_edits(tool, rt, known[crate])
+        failed = [*not_refuted(crate)]
+        record(crate, before, failed)
+        all_failed += failed
+    print(f"edits: {sum(len(one.facts) for one in edits() if one.crate in tried)} facts looked up in what the prover says of the edits of {' '.join(tried)}")
+    return all_failed
 
 
 def main(words):
+    with_edits = sorted({one.crate for one in edits()})
     if words[:1] == ["facts"]:
-        crates = words[1:] or sorted({one.crate for one in edits()})
-        try_all(crates)
-        failed = [*of_facts(crates)]
-        count = f"{sum(len(one.facts) for one in edits() if one.crate in crates)} wrong answers looked up, {len(failed)} not refused at their facts"
+        if unknown := [one for one in words[1:] if one not in with_edits]:
+            sys.exit(f"edits: no edits of {' '.join(unknown)}")
+        failed = of_facts(words[1:] or with_edits)
     elif not words:
-        failed = [*as_printed(), *unnamed(), *(f"{one.crate}/{one.name} names no fact" for one in edits() if not one.facts)]
-        count = f"{len(edits())} edits, of {sum(len(one.facts) for one in edits())} facts, and {len([*functions()])} public functions looked up in what rt ci printed, {len(failed)} not as they should be"
+        failed = [*as_printed(), *unnamed()]
+        stale, others = to_try()
+        print(f"edits: tests/edits.txt has not {' '.join(sorted(stale)) or 'nothing'} as here; tried beside: {' '.join(others)}")
+        failed += of_facts(sorted(stale.union(others)))
+        print(f"edits: {len(edits())} edits, of {sum(len(one.facts) for one in edits())} facts, and {len([*functions()])} public functions looked up in what rt ci printed")
     else:
         sys.exit(__doc__)
     for text in failed:
         print("edits: " + text)
-    print("edits: " + count)
+    print(f"edits: {len(failed)} not as they should be")
     return 1 if failed else 0
 
 

@@ -24,6 +24,9 @@ Start = lts.Start tie.the-claims reads.Pre reads.Post
 abbrev mem : Start → Beside → Lent
 mem c b = lent c.args.stack.now c.args.frames.now c.args.chain.now c.args.slots.now c.args.saved_stack.now c.args.saved_frames.now b
 
+pub overflow_sub-fuel : goal.overflow_sub-fuel
+overflow_sub-fuel c = c.requires.enterable.paid
+
 pub enter-requires : goal.enter-requires
 enter-requires c =
     let e = c.requires.enterable in

@@ -3,6 +3,9 @@ use mathlib.Core.Path.{sym, ap}
 use Rattle.model.specs.Machine.{result_of}
 use Rattle.machine_finish.proofs.cont.result_of.Goals as goal
 
+pub returns-in-None : goal.returns-in-None
+returns-in-None c = ap (λ k. result_of k c.args.v) (sym c.in-None.is)
+
 pub returns-in-Dyn : goal.returns-in-Dyn
 returns-in-Dyn c = ap (λ k. result_of k c.args.v) (sym c.in-Dyn.is)
 
