@@ -40,7 +40,7 @@ pub struct Unsound(pub Box<Words>);
 
 impl fmt::Display for Unsound {
     fn fmt(&self, f: &mut fmt::Formatter<'_>) -> fmt::Result {
-        f.write_str("11: the words are no well-formed machine")
+        f.write_str("11: the words are no sound machine's")
     }
 }
 

@@ -110,7 +110,7 @@ fn carry_on(rng: &mut Rng, mut m: Machine, mut fuel: Fuel) {
         let _any = m.call(&mut fuel, call);
         assert!(m.look().len() <= m.height());
     }
-    assert!(m.check(&fuel), "well-formed after every call");
+    assert!(m.check(&fuel), "sound after every call");
 }
 
 #[test]
@@ -150,6 +150,6 @@ fn one_word_changed() {
         assert_eq!(run.events, whole.events, "seed {seed}");
         runs += 1;
     }
-    println!("damage: {runs} runs; one word changed: {refused} times refused at load (11), {sound} times still well-formed");
+    println!("damage: {runs} runs; one word changed: {refused} times refused at load (11), {sound} times sound still");
     assert!(refused > 500 && sound > 100);
 }
