@@ -8,13 +8,12 @@ tests/edits facts [CRATE..]    tries the edits of these crates, or of all, again
                                itself. An edit of which all facts are gets its line in tests/edits.txt, and another loses it
 
 A fact is FOLDER/Answers:GOAL, a goal of the function whose proof stands in proofs/FOLDER (also where the prover finds that proof by itself); FOLDER, any of its
-goals; or FILE:NAME, a theorem of the crate's FILE.antt. It does not count that something under it was refused, or that the edit took a point of the code away by which
-the proof finds its facts, or moved it: LOST."""
+goals; or FILE:NAME, a theorem of the crate's FILE.antt. It does not count that something under it was refused, that the edit took a point of the code away by which
+the proof finds its facts, or moved it, or that the prover came to no verdict: LOST."""
 import functools
 import hashlib
 import importlib.machinery
 import importlib.util
-import inspect
 import os
 import re
 import shutil
@@ -29,10 +28,12 @@ ROOT = Path(__file__).resolve().parent.parent
 TARGET = ROOT / "target"
 RECORD = ROOT / "tests" / "edits.txt"
 HEAD = """# The edits of which every fact was seen refused itself, by `tests/edits facts`, which writes this file: crate and edit, its facts, and the sum of all that this rests on:
-# the toolchain's name, how a fact is looked up (page/edits.py), the edit, the files of its crate and of those below. Where a sum differs, tests/edits tries the edit again.
+# the toolchain's name, the edit, the files of its crate and of those below, and how a fact is looked up (page/edits.py, tests/over). Where a sum differs, tests/edits
+# tries the edit again.
 """
-SAMPLE = 3
-LOST = re.compile(r"was not admitted|declarations? that depends? on|has no (?:field )?`|is not in scope|expected type `(?:tie|[^ `]*\.Lts)\.[A-Za-z0-9·-]+|one has `[^ `]*\.Lts\.[A-Za-z0-9·-]+` *\(expected\)")
+# how many crates are tried though the record has their edits; but none of LONG, whose edits take a quarter of an hour
+SAMPLE, LONG = 3, {"memory_step", "claims_linked"}
+LOST = re.compile(r"was not admitted|antt ran out of|outgrew the memory limit|stopped at the step limit|expected an expression|declarations? that depends? on|has no (?:field )?`|is not in scope(?! here, so what is shown)|expected type `(?:tie|[^ `]*\.Lts)\.[A-Za-z0-9·-]+|but this has type `(?:lts|[^ `]*\.Lts)\.|one has `[^ `]*\.Lts\.[A-Za-z0-9·-]+` *\(expected\)")
 SAID = re.compile(r"^rt: must-fail (\w+)/(\S+)\.edit: (refused, as it must be|[A-Z ]+)(.*)$")
 
 
@@ -48,7 +49,11 @@ class Edit:
 
     def rows(self):
         """What the prover said, a message that goes on in indented lines as one row; or None."""
-        return re.sub(r"\n {2,}", " ", self.log.read_text(errors="replace")).splitlines() if self.log.exists() else None
+        return re.sub(r"\n {2,}", " ", self.log.read_text(errors="replace")).splitlines()[1:] if self.log.exists() else None
+
+    def is_tried(self):
+        """Whether its log is of a try with the files that are here: its first line is their sum."""
+        return self.log.exists() and self.log.read_text(errors="replace").split("\n", 1)[0] == tried_with(self)
 
     def changes(self):
         """What it changes: file, the text before, the text after."""
@@ -77,7 +82,7 @@ def refused_at(crate, fact, rows):
     another than stands there. Line, name, text, and whether it is about the fact."""
     place, _, name = fact.partition(":")
     folder = re.sub(r"/(?:Answers|Invariants|Proof)$", "", place)
-    is_theorem = bool(name) and folder == place
+    is_theorem = bool(name) and place.startswith(("proofs/", "specs/"))
     files = rf"{re.escape(place)}" if is_theorem else rf"proofs/{re.escape(folder)}/(?:Answers|Invariants|Proof)"
     function = "::".join(one for one in [crate, *folder.split("/")])
     unfit = None
@@ -118,7 +123,7 @@ def unnamed():
             named.setdefault(one.crate, []).append(re.sub(r"/(?:Answers|Invariants|Proof)(?::.*)?$|:.*$", "", fact))
     for crate, file, place, is_method in functions():
         wanted = rf"(?:.*/)?{re.escape(place)}" if is_method else re.escape(place)
-        if not crates()[crate][1] and sum(1 for one in named.get(crate, []) if re.fullmatch(wanted, one)) < 2:
+        if not listed()[crate][1] and sum(1 for one in named.get(crate, []) if re.fullmatch(wanted, one)) < 2:
             yield f"{file}: {place.split('/')[-1]} is named by fewer than two wrong answers"
 
 
@@ -138,13 +143,18 @@ def as_printed():
 
 
 @functools.cache
-def crates():
-    """Each crate of crates.txt with all that it rests on, itself among them, and whether it is a static library."""
-    found = {}
-    for row in (ROOT / "crates.txt").read_text().splitlines():
-        if hit := re.match(r"(\w+)( staticlib)?:([^#]*)", row):
-            found[hit[1]] = {hit[1]}.union(*(found.get(one, ({one},))[0] for one in hit[3].split())), bool(hit[2])
-    return found
+def listed():
+    """The crates of crates.txt: what each uses, and whether it is a static library."""
+    rows = re.findall(r"(?m)^(\w+)( staticlib)?:([^#\n]*)", (ROOT / "crates.txt").read_text())
+    return {name: (uses.split(), bool(is_static)) for name, is_static, uses in rows}
+
+
+@functools.cache
+def with_below(crate):
+    """The crate and all that it rests on."""
+    if crate not in listed():
+        sys.exit(f"edits: {crate} is not in crates.txt")
+    return frozenset({crate}).union(*map(with_below, listed()[crate][0]))
 
 
 @functools.cache
@@ -157,13 +167,18 @@ def sum_of(crate):
     return read.hexdigest()
 
 
+def tried_with(edit):
+    """The sum of all that the prover reads in a try of the edit."""
+    read = hashlib.sha256((ROOT / "toolchain").read_bytes() + edit.path.read_bytes())
+    for crate in sorted(with_below(edit.crate)):
+        read.update(f"{crate} {sum_of(crate)}\n".encode())
+    return read.hexdigest()
+
+
 def line_of(edit):
     """The line of an edit in the record."""
-    judge = inspect.getsource(refused_at) + LOST.pattern
-    read = hashlib.sha256((ROOT / "toolchain").read_bytes() + judge.encode() + edit.path.read_bytes())
-    for crate in sorted(crates()[edit.crate][0]):
-        read.update(f"{crate} {sum_of(crate)}\n".encode())
-    return f"{edit.crate}/{edit.name} {len(edit.facts)} {read.hexdigest()}"
+    judge = Path(__file__).read_bytes() + (ROOT / "tests" / "over").read_bytes()
+    return f"{edit.crate}/{edit.name} {len(edit.facts)} {hashlib.sha256(judge + tried_with(edit).encode()).hexdigest()}"
 
 
 def lines():
@@ -182,7 +197,7 @@ def to_try():
     kept, here = recorded(), lines()
     stale = {name.split("/")[0] for name in here if kept.get(name) != here[name]}
     order = hashlib.sha256("".join(sorted(here.values())).encode()).hexdigest()
-    others = sorted({one.crate for one in edits()} - stale, key=lambda crate: hashlib.sha256((order + crate).encode()).hexdigest())
+    others = sorted({one.crate for one in edits()} - stale - LONG, key=lambda crate: hashlib.sha256((order + crate).encode()).hexdigest())
     return stale, others[:SAMPLE]
 
 
@@ -206,9 +221,11 @@ def over():
 
 
 def try_edits(tool, rt, of):
-    """Tries the edits of a crate with the kit's own check of an edit, and keeps all that it says."""
+    """Tries the edits of a crate, but those of which a log is kept, with the kit's own check of an edit, and keeps all that it says."""
     begun = time.monotonic()
-    found = [one for one in edits() if one.crate == of.name]
+    found = [one for one in edits() if one.crate == of.name and not one.is_tried()]
+    if not found:
+        return
     tool.build_below([of])
     kept = f"{of.folder}/out/incremental"
     room = rt.seeded(of, ["--jobs", "2"], kept if os.path.isdir(kept) else None)
@@ -216,14 +233,16 @@ def try_edits(tool, rt, of):
         sys.exit(f"edits: {of.name} is not proved as it stands")
 
     def one(at, edit):
+        wanted = tried_with(edit)
         texts, why = rt.read_edit(str(edit.path), of.folder)
         if texts:
             copy = f"{room}/{at}"
             rt.linked(f"{room}/seed", copy)
             why = rt.checked(of, texts, ["--jobs", "1"], copy).stdout
             shutil.rmtree(copy, ignore_errors=True)
+        sum_of.cache_clear()
         edit.log.parent.mkdir(parents=True, exist_ok=True)
-        edit.log.write_text(why)
+        edit.log.write_text(f"{wanted if wanted == tried_with(edit) else 'changed meanwhile'}\n{why}")
 
     at_once = max(1, min(rt.processors(), int(0.85 * rt.free() / rt.need(of))))
     try:
@@ -241,14 +260,15 @@ def not_refuted(crate):
             continue
         if not one.facts:
             yield f"{crate}/{one.name} names no fact"
+        rows = one.rows()
         for fact in one.facts:
-            hit = refused_at(crate, fact, one.rows())
+            hit = refused_at(crate, fact, rows)
             if not (hit and hit[3]):
                 yield f"{crate}/{one.name} did not refute {fact}{': ' + hit[2][:200] if hit else ''} (see {one.log.relative_to(ROOT)})"
 
 
 def of_facts(tried):
-    """Tries the edits of the crates, looks up their facts, and writes the record."""
+    """Tries the edits of the crates, looks up their facts, tells which were not refused, and writes the record; returns whether all were."""
     wanted, found = (ROOT / "toolchain").read_text().strip(), subprocess.run(["rt", "version"], stdout=subprocess.PIPE, text=True).stdout.strip()
     if wanted != found:
         sys.exit(f"edits: this is {found}; the file toolchain names {wanted}")
@@ -263,28 +283,27 @@ def of_facts(tried):
         failed = [*not_refuted(crate)]
         record(crate, before, failed)
         all_failed += failed
-    print(f"edits: {sum(len(one.facts) for one in edits() if one.crate in tried)} facts looked up in what the prover says of the edits of {' '.join(tried)}")
-    return all_failed
+        for text in failed:
+            print(f"edits: {text}", flush=True)
+    print(f"edits: {sum(len(one.facts) for one in edits() if one.crate in tried)} facts looked up in what the prover says of the edits of {' '.join(tried)}, {len(all_failed)} not refused")
+    return not all_failed
 
 
 def main(words):
-    with_edits = sorted({one.crate for one in edits()})
+    with_edits = sorted({one.crate for one in edits() if with_below(one.crate)}, key=[*listed()].index)
     if words[:1] == ["facts"]:
         if unknown := [one for one in words[1:] if one not in with_edits]:
             sys.exit(f"edits: no edits of {' '.join(unknown)}")
-        failed = of_facts(words[1:] or with_edits)
-    elif not words:
-        failed = [*as_printed(), *unnamed()]
-        stale, others = to_try()
-        print(f"edits: tests/edits.txt has not {' '.join(sorted(stale)) or 'nothing'} as here; tried beside: {' '.join(others)}")
-        failed += of_facts(sorted(stale.union(others)))
-        print(f"edits: {len(edits())} edits, of {sum(len(one.facts) for one in edits())} facts, and {len([*functions()])} public functions looked up in what rt ci printed")
-    else:
+        return 0 if of_facts(words[1:] or with_edits) else 1
+    if words:
         sys.exit(__doc__)
+    failed = [*as_printed(), *unnamed()]
     for text in failed:
-        print("edits: " + text)
-    print(f"edits: {len(failed)} not as they should be")
-    return 1 if failed else 0
+        print(f"edits: {text}")
+    print(f"edits: {len(edits())} edits, of {sum(len(one.facts) for one in edits())} facts, and {len([*functions()])} public functions looked up in what rt ci printed, {len(failed)} not as they should be")
+    stale, others = to_try()
+    print(f"edits: now tried: of {' '.join(sorted(stale)) or 'no crate'}, as tests/edits.txt has not these files, and of {' '.join(others)}", flush=True)
+    return 0 if of_facts([one for one in with_edits if one in stale.union(others)]) and not failed else 1
 
 
 if __name__ == "__main__":
