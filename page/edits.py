@@ -12,16 +12,16 @@ goals; or FILE:NAME, a theorem of the crate's FILE.antt. It does not count that 
 the proof finds its facts, or moved it, or that the prover came to no verdict: LOST."""
 import functools
 import hashlib
-import importlib.machinery
-import importlib.util
 import os
 import re
+import runpy
 import shutil
 import subprocess
 import sys
 import time
 from concurrent.futures import ThreadPoolExecutor
 from pathlib import Path
+from types import SimpleNamespace
 
 sys.dont_write_bytecode = True
 ROOT = Path(__file__).resolve().parent.parent
@@ -31,7 +31,7 @@ HEAD = """# The edits of which every fact was seen refused itself, by `tests/edi
 # the toolchain's name, the edit, the files of its crate and of those below, and how a fact is looked up (page/edits.py, tests/over). Where a sum differs, tests/edits
 # tries the edit again.
 """
-# how many crates are tried though the record has their edits; but none of LONG, whose edits take a quarter of an hour
+# how many crates are tried though the record has their edits; but none of LONG, whose edits take eight minutes each
 SAMPLE, LONG = 3, {"memory_step", "claims_linked"}
 LOST = re.compile(r"was not admitted|antt ran out of|outgrew the memory limit|stopped at the step limit|expected an expression|declarations? that depends? on|has no (?:field )?`|is not in scope(?! here, so what is shown)|expected type `(?:tie|[^ `]*\.Lts)\.[A-Za-z0-9·-]+|but this has type `(?:lts|[^ `]*\.Lts)\.|one has `[^ `]*\.Lts\.[A-Za-z0-9·-]+` *\(expected\)")
 SAID = re.compile(r"^rt: must-fail (\w+)/(\S+)\.edit: (refused, as it must be|[A-Z ]+)(.*)$")
@@ -212,14 +212,6 @@ def record(crate, before, failed):
     RECORD.write_text(HEAD + "".join(f"{kept[name]}\n" for name in sorted(kept)))
 
 
-def over():
-    """tests/over as a module: the kit's rt, over libraries that stand built."""
-    loader = importlib.machinery.SourceFileLoader("over", str(ROOT / "tests" / "over"))
-    made = importlib.util.module_from_spec(importlib.util.spec_from_loader("over", loader))
-    loader.exec_module(made)
-    return made
-
-
 def try_edits(tool, rt, of):
     """Tries the edits of a crate, but those of which a log is kept, with the kit's own check of an edit, and keeps all that it says."""
     begun = time.monotonic()
@@ -272,7 +264,8 @@ def of_facts(tried):
     wanted, found = (ROOT / "toolchain").read_text().strip(), subprocess.run(["rt", "version"], stdout=subprocess.PIPE, text=True).stdout.strip()
     if wanted != found:
         sys.exit(f"edits: this is {found}; the file toolchain names {wanted}")
-    tool = over()
+    # the kit's rt as a module, over libraries that stand built
+    tool = SimpleNamespace(**runpy.run_path(str(ROOT / "tests" / "over")))
     rt = tool.load()
     known = tool.crates_of(rt, str(ROOT))
     rt.rtlib.guarded()
@@ -302,7 +295,7 @@ def main(words):
         print(f"edits: {text}")
     print(f"edits: {len(edits())} edits, of {sum(len(one.facts) for one in edits())} facts, and {len([*functions()])} public functions looked up in what rt ci printed, {len(failed)} not as they should be")
     stale, others = to_try()
-    print(f"edits: now tried: of {' '.join(sorted(stale)) or 'no crate'}, as tests/edits.txt has not these files, and of {' '.join(others)}", flush=True)
+    print(f"edits: tried now, as tests/edits.txt has other files: {' '.join(sorted(stale)) or 'none'}; beside: {' '.join(others)}", flush=True)
     return 0 if of_facts([one for one in with_edits if one in stale.union(others)]) and not failed else 1
 
 
