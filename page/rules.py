@@ -255,7 +255,8 @@ def check_paths():
             count += 1
             if not (ROOT / path).exists() and not (page.parent / path).exists():
                 say(f"{page.relative_to(ROOT)}: no {path}")
-        for link in set(re.findall(r"\]\(([^)\s]+)\)", text)):
+        # a block of code has no links
+        for link in set(re.findall(r"\]\(([^)\s]+)\)", re.sub(r"^```.*?^```", "", text, flags=re.M | re.S))):
             if re.match(r"[a-z]+:", link):
                 continue
             links += 1

@@ -6,9 +6,8 @@ use native.Mathlib.Omega.{arith}
 use lib.Dec.{eqb, ltb}
 use borrow.Author.Tests.{eqb-true, eq-eqb, ne_eqb, lt-ltb, le-ltb}
 use Rattle.lists.specs.Pick.{pick}
-use Rattle.heap.specs.declared.value.Opt.{Opt}
+use Rattle.std.specs.Prelude.{Option, Some, None}
 use Rattle.model.specs.Sound.{outcome_range, is_none}
-use Rattle.model.specs.declared.machine.Outcome.{Outcome}
 use Rattle.model.specs.declared.machine.Stop.{Stop}
 use Rattle.memory_world.specs.Told.{told, outcome_in}
 use Rattle.memory_world.specs.declared.machine.Told.{Told}
@@ -18,17 +17,17 @@ use Rattle.check_tables.proofs.Bools.{fails, eqb-flip}
 use Rattle.check_machine.specs.Numbers.{outcome_test}
 
 -- six numbers
-told-small : (o : Outcome) → (told o).0 ≤ 5
-told-small Outcome.None = omega arith
-told-small (Outcome.Some (Stop.Yielded v)) = omega arith
-told-small (Outcome.Some (Stop.Awaiting v)) = omega arith
-told-small (Outcome.Some (Stop.Returned v)) = omega arith
-told-small (Outcome.Some (Stop.Failed v f p)) = omega arith
-told-small (Outcome.Some Stop.CloseIgnored) = omega arith
+told-small : (o : Option Stop) → (told o).0 ≤ 5
+told-small None = omega arith
+told-small (Some (Stop.Yielded v)) = omega arith
+told-small (Some (Stop.Awaiting v)) = omega arith
+told-small (Some (Stop.Returned v)) = omega arith
+told-small (Some (Stop.Failed v f p)) = omega arith
+told-small (Some Stop.CloseIgnored) = omega arith
 
 -- only a failure has a function and a pc
 plain_of : (a b c d e : Bool) (v f p : ℕ) → e ≡ false
-    → let o = told (pick a Outcome.None (pick b (Outcome.Some (Stop.Yielded v)) (pick c (Outcome.Some (Stop.Awaiting v)) (pick d (Outcome.Some (Stop.Returned v)) (pick e (Outcome.Some (Stop.Failed v f p)) (Outcome.Some Stop.CloseIgnored)))))) in
+    → let o = told (pick a None (pick b (Some (Stop.Yielded v)) (pick c (Some (Stop.Awaiting v)) (pick d (Some (Stop.Returned v)) (pick e (Some (Stop.Failed v f p)) (Some Stop.CloseIgnored)))))) in
     (o.2 ≡ 0) × (o.3 ≡ 0)
 unfolding pick
 plain_of true b c d e v f p h = (refl, refl)
@@ -111,8 +110,8 @@ module _ (t : Told) where
 
 -- ---- fuel
 
-pub no-bank : (o : Opt) (b : Bool) → o ≡ Opt.None → true ≡ (is_none o || b)
+pub no-bank : (o : Option ℕ) (b : Bool) → o ≡ None → true ≡ (is_none o || b)
 no-bank o b e = sym (ap (λ x. is_none x || b) e)
 
-pub a-bank : (o : Opt) (n : ℕ) (b : Bool) → o ≡ Opt.Some n → b ≡ (is_none o || b)
+pub a-bank : (o : Option ℕ) (n : ℕ) (b : Bool) → o ≡ Some n → b ≡ (is_none o || b)
 a-bank o n b e = sym (ap (λ x. is_none x || b) e)

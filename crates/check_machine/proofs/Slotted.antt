@@ -16,7 +16,7 @@ use Rattle.heap.specs.Table.{slot}
 use Rattle.heap.specs.Slot.{width, flag, slot_words, slot_of_words}
 use Rattle.heap.specs.Heap.{slots_of}
 use Rattle.heap.specs.Ranges.{Range, unused, kinds, within, slot_ok, table_ok}
-use Rattle.heap.specs.declared.value.Opt.{Opt}
+use Rattle.std.specs.Prelude.{Some, None}
 use Rattle.heap.specs.declared.object.CoroState.{CoroState}
 use Rattle.heap.specs.declared.object.Object as H
 use Rattle.heap.specs.declared.object.Object.TheVariants as O
@@ -71,18 +71,18 @@ fits_in t (O.Int n) b h =
     let y = b 2 in
     of-facts (get_or kinds 2 []) (slot_words (slot t (O.Int n)))
     ((omega arith, omega arith), ((omega arith, omega arith), ((omega arith, omega arith), unused-in 17)))
-fits_in t (O.Iter s d Opt.None) b h =
+fits_in t (O.Iter s d None) b h =
     let x = ltb-true t (2 ^ 16) (and_left (ltb t (2 ^ 16)) true (and_left (ltb t (2 ^ 16) && true) true h)) in
     let y = b 2 in
     let z = flag_small d in
-    of-facts (get_or kinds 3 []) (slot_words (slot t (O.Iter s d Opt.None)))
+    of-facts (get_or kinds 3 []) (slot_words (slot t (O.Iter s d None)))
     ((omega arith, omega arith), ((omega arith, omega arith), ((omega arith, omega arith), ((omega arith, omega arith), unused-in 16))))
-fits_in t (O.Iter s d (Opt.Some k)) b h =
+fits_in t (O.Iter s d (Some k)) b h =
     let x = ltb-true t (2 ^ 16) (and_left (ltb t (2 ^ 16)) true (and_left (ltb t (2 ^ 16) && true) true h)) in
     let y = b 2 in
     let z = flag_small d in
     let u = b 4 in
-    of-facts (get_or kinds 4 []) (slot_words (slot t (O.Iter s d (Opt.Some k))))
+    of-facts (get_or kinds 4 []) (slot_words (slot t (O.Iter s d (Some k))))
     ((omega arith, omega arith), ((omega arith, omega arith), ((omega arith, omega arith), ((omega arith, omega arith), ((omega arith, omega arith), unused-in 15)))))
 fits_in t (O.Error e f p v) b h =
     let r = leb 1 e && leb e 8 in
@@ -194,11 +194,11 @@ in-fits t (O.Func f) h =
 in-fits t (O.Int n) h =
     let q = facts (get_or kinds 2 []) (slot_words (slot t (O.Int n))) h in
     both (both (lt-ltb t (2 ^ 16) (omega (arith, q.0.1))) refl) refl
-in-fits t (O.Iter s d Opt.None) h =
-    let q = facts (get_or kinds 3 []) (slot_words (slot t (O.Iter s d Opt.None))) h in
+in-fits t (O.Iter s d None) h =
+    let q = facts (get_or kinds 3 []) (slot_words (slot t (O.Iter s d None))) h in
     both (both (lt-ltb t (2 ^ 16) (omega (arith, q.0.1))) refl) refl
-in-fits t (O.Iter s d (Opt.Some k)) h =
-    let q = facts (get_or kinds 4 []) (slot_words (slot t (O.Iter s d (Opt.Some k)))) h in
+in-fits t (O.Iter s d (Some k)) h =
+    let q = facts (get_or kinds 4 []) (slot_words (slot t (O.Iter s d (Some k)))) h in
     both (both (lt-ltb t (2 ^ 16) (omega (arith, q.0.1))) refl) refl
 in-fits t (O.Error e f p v) h =
     let q = facts (get_or kinds 5 []) (slot_words (slot t (O.Error e f p v))) h in

@@ -27,9 +27,6 @@ top-lies ws zero r end h = absurd (omega arith)
 top-lies ws (suc n) r end h = refl
 
 module _ (ws : List ℕ) (c : CoroObj) where
-  pub not-waiting : is_suspended c.state ≡ false → true ≡ waits_in ws c
-  not-waiting e = sym (ap (λ t. not t || ltb (top_base (piled 6 frame_of c.frames ws) + c.waiting) c.regs) e)
-
   module _ (e : is_suspended c.state ≡ true) (some : 0 < c.frames) where
     waiting : waits_in ws c ≡ lies_under c.waiting c.regs (piled 6 frame_of c.frames ws)
     waiting = ap (λ t. not t || ltb (top_base (piled 6 frame_of c.frames ws) + c.waiting) c.regs) e ∙ top-lies ws c.frames c.waiting c.regs some

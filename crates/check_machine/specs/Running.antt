@@ -1,5 +1,5 @@
 -- The running coroutines: those of the chain, each its own.
-use Rattle.std.specs.Prelude.{ℕ, ◌*◌, ◌≤◌, ◌≡◌, Bool, true, ◌&&◌, List, map, length}
+use Rattle.std.specs.Prelude.{ℕ, ◌*◌, ◌≤◌, ◌≡◌, Bool, ◌&&◌, List, map, length, Option, is_some, IfSome}
 use Rattle.heap.specs.Word.{slot_of}
 use Rattle.heap.specs.Slot.{width}
 use Rattle.heap.specs.State.{is_running}
@@ -12,7 +12,6 @@ use Rattle.model.specs.Sound.{coros}
 use Rattle.memory_tables.specs.Layout.{active_of}
 use Rattle.memory_tables.specs.Parts.{piled}
 use Rattle.check_tables.specs.Queue.{by_coro, in_set}
-use Rattle.check_machine.specs.declared.running.Runs.{Runs}
 
 abbrev pub running : CoroObj → Bool
 running c = is_running c.state
@@ -30,8 +29,8 @@ pub record RunningAsks (chain slots : List ℕ) (n count : ℕ) : Type 0 where
   pub table : count * width ≤ length slots
   pub few : count ≤ 4096
 
-pub record RunningTold (chain : List ℕ) (n : ℕ) (xs : List (Slot H.Object)) (r : Runs) : Type 0 where
-  pub good : r.good ≡ running_test chain n xs
-  pub long : length r.set ≡ 64
+pub record RunningTold (chain : List ℕ) (n : ℕ) (xs : List (Slot H.Object)) (r : Option (List ℕ)) : Type 0 where
+  pub good : is_some r ≡ running_test chain n xs
+  pub long : IfSome r (λ set. length set ≡ 64)
   -- the slots that the chain names
-  pub set : r.good ≡ true → (x : ℕ) → in_set r.set x ≡ among x (map slot_of (active_words chain n))
+  pub set : IfSome r (λ set. (x : ℕ) → in_set set x ≡ among x (map slot_of (active_words chain n)))

@@ -2,7 +2,7 @@
 ghost use Rattle.std.specs.Prelude.{◌≡◌};
 ghost use Rattle.check_machine.specs.Numbers.{outcome_test, fuel_test};
 
-use heap::value::{BITS32, Opt};
+use heap::value::BITS32;
 use memory_world::machine::Told;
 use memory_world::outcome;
 use model::machine::Fuel;
@@ -42,7 +42,7 @@ pub fn fuel_ok(f: Fuel) -> bool
 {
     let bank = f.bank;
     match bank {
-        Opt::None => true,
-        Opt::Some(_) => f.fuel == 0,
+        None => true,
+        Some(_) => f.fuel == 0,
     }
 }

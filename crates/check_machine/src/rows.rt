@@ -73,19 +73,17 @@ fn slot_row(
 fn is_held(mask: u64, row: u64) -> bool
     ensures { result ≡ held_bit mask row }
 {
-    if row < NONE {
-        return bit(mask, row);
-    }
-    false
+    row < NONE && bit(mask, row)
 }
 
 fn hold(mask: u64, row: u64) -> u64
     ensures { (j : ℕ) → j < 64 → bit_at result j ≡ eqb j row || bit_at mask j }
 {
     if row < NONE {
-        return with_bit(mask, row);
+        with_bit(mask, row)
+    } else {
+        mask
     }
-    mask
 }
 
 // Row n has only zeros.
@@ -93,10 +91,8 @@ fn row_free(saved_stack: &[u64], saved_frames: &[u64], sizes: Sizes, n: usize) -
     requires { FreeFits saved_stack.now saved_frames.now sizes × (n < sizes.rows) }
     ensures { result ≡ row_free sizes saved_stack.now saved_frames.now n }
 {
-    if !row_rest(saved_stack, n, sizes.width, 0) {
-        return false;
-    }
-    row_rest(saved_frames, n, sizes.depth * FRAME_WIDTH, 0)
+    row_rest(saved_stack, n, sizes.width, 0)
+        && row_rest(saved_frames, n, sizes.depth * FRAME_WIDTH, 0)
 }
 
 // Row n is in the set, or has only zeros.
@@ -104,10 +100,7 @@ fn free_at(saved_stack: &[u64], saved_frames: &[u64], sizes: Sizes, mask: u64, n
     requires { FreeFits saved_stack.now saved_frames.now sizes × (n < sizes.rows) }
     ensures { result ≡ (bit_at mask n || row_free sizes saved_stack.now saved_frames.now n) }
 {
-    if bit(mask, n as u64) {
-        return true;
-    }
-    row_free(saved_stack, saved_frames, sizes, n)
+    bit(mask, n as u64) || row_free(saved_stack, saved_frames, sizes, n)
 }
 
 // Each row does.
@@ -115,13 +108,7 @@ fn free_ok(saved_stack: &[u64], saved_frames: &[u64], sizes: Sizes, mask: u64) -
     requires { FreeFits saved_stack.now saved_frames.now sizes }
     ensures { result ≡ free_test sizes saved_stack.now saved_frames.now (λ n. bit_at mask n) }
 {
-    let rows = sizes.rows;
-    for n in 0..rows {
-        if !free_at(saved_stack, saved_frames, sizes, mask, n) {
-            return false;
-        }
-    }
-    true
+    (0..sizes.rows).all(|n| free_at(saved_stack, saved_frames, sizes, mask, n))
 }
 
 // All slots with their rows: words in their ranges, each row held by one, and zeros in the others.
@@ -139,9 +126,7 @@ pub fn rows_ok(
     ensures { result ≡ (ranges_test slots.now count && rows_test sizes (setup_of setup.now) saved_stack.now saved_frames.now (in_set set.now) slots.now count) }
 {
     let mut mask: u64 = 0;
-    let mut i = count;
-    while i > 0 {
-        i -= 1;
+    for i in (0..count).rev() {
         if !heap::ranges::slot_ok_at(slots, i) {
             return false;
         }

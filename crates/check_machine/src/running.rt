@@ -5,7 +5,6 @@ ghost use Rattle.check_tables.specs.Queue.{by_coro, in_set};
 ghost use Rattle.check_machine.specs.Running.{running, RunningAsks, RunningTold};
 
 use check_tables::queue::{bit, with_bit};
-use heap::heap::Coroutine;
 use heap::value::{Obj, Word};
 use memory_tables::active::ACTIVE_WIDTH;
 use model::program::MOST_SLOTS;
@@ -15,60 +14,35 @@ const BITS: usize = 64;
 
 pub const SET_WIDTH: usize = MOST_SLOTS / BITS;
 
-// Whether they are in order, and the set of their slots.
-#[derive(Clone, Copy)]
-pub struct Runs {
-    pub good: bool,
-    pub set: [u64; SET_WIDTH],
-}
-
 // Whether a word names a Running coroutine.
 fn is_running(slots: &[u64], count: usize, w: u64) -> bool
     requires { TableFits slots.now count }
     ensures { result ≡ by_coro running (coro_of (slots_of count slots.now) w) }
 {
-    match heap::heap::coro(slots, count, Word(w)) {
-        Coroutine::Not(_) => false,
-        Coroutine::At(_, c) => {
-            let state = c.state;
-            state.is_running()
-        }
-    }
+    heap::heap::coro(slots, count, Word(w)).is_ok_and(|(_, c)| c.state.is_running())
 }
 
-// The n active ones: each Running, and none twice.
-pub fn running(chain: &[u64], n: usize, slots: &[u64], count: usize) -> Runs
+// The set of the n active ones' slots, if each is Running, and none is there twice.
+pub fn running(chain: &[u64], n: usize, slots: &[u64], count: usize) -> Option<[u64; SET_WIDTH]>
     requires { RunningAsks chain.now slots.now n count }
     ensures { RunningTold chain.now n (slots_of count slots.now) result }
 {
     let mut seen = [0u64; SET_WIDTH];
-    let mut k = 0;
-    while k < n {
+    for k in 0..n {
         let w = chain[k * ACTIVE_WIDTH];
         if !is_running(slots, count, w) {
-            return Runs {
-                good: false,
-                set: seen,
-            };
+            return None;
         }
         let x = Obj(w).slot();
         let at = x / BITS;
         let i = (x % BITS) as u64;
         let v = seen[at];
         if bit(v, i) {
-            return Runs {
-                good: false,
-                set: seen,
-            };
+            return None;
         }
-        let u = with_bit(v, i);
-        seen[at] = u;
-        k += 1;
+        seen[at] = with_bit(v, i);
     }
-    Runs {
-        good: true,
-        set: seen,
-    }
+    Some(seen)
 }
 
 // Whether slot i is in the set.

@@ -27,27 +27,14 @@ pub(crate) fn row_rest(ws: &[u64], i: usize, w: usize, n: usize) -> bool
 fn largest_ok(sizes: Sizes, c: CoroObj) -> bool
     ensures { result ≡ largest_in sizes c }
 {
-    let width = sizes.width as u64;
-    let depth = sizes.depth as u64;
-    if width < c.maxregs {
-        return false;
-    }
-    c.maxframes <= depth
+    c.maxregs <= sizes.width as u64 && c.maxframes <= sizes.depth as u64
 }
 
 // The counts of a coroutine.
 fn sizes_ok(sizes: Sizes, c: CoroObj) -> bool
     ensures { result ≡ sizes_in sizes c }
 {
-    let width = sizes.width as u64;
-    let depth = sizes.depth as u64;
-    if width < c.regs {
-        return false;
-    }
-    if depth < c.frames {
-        return false;
-    }
-    largest_ok(sizes, c)
+    c.regs <= sizes.width as u64 && c.frames <= sizes.depth as u64 && largest_ok(sizes, c)
 }
 
 // The waiting register of a suspended one lies in its top frame: ws are its row's frames.
@@ -62,10 +49,7 @@ fn waits_ok(ws: &[u64], c: CoroObj) -> bool
     let n = c.frames as usize;
     let top = n - 1;
     let base = base_at(ws, top) as u64;
-    if c.regs <= base {
-        return false;
-    }
-    c.waiting < c.regs - base
+    base < c.regs && c.waiting < c.regs - base
 }
 
 // The frames of a resumable one, in the words of its row.
@@ -73,11 +57,7 @@ fn frames_saved(ws: &[u64], setup: &[u64], need: &[u64; MOST_FUNCTIONS], c: Coro
     requires { FramesFit ws.now need.now setup.now c.frames }
     ensures { result ≡ (saved_frames_ok (setup_of setup.now) ws.now c.frames c.regs && waits_in ws.now c) }
 {
-    let n = c.frames as usize;
-    if !saved_frames_ok(ws, setup, need, n, c.regs) {
-        return false;
-    }
-    waits_ok(ws, c)
+    saved_frames_ok(ws, setup, need, c.frames as usize, c.regs) && waits_ok(ws, c)
 }
 
 // The frames of an unfinished one: a resumable one has some, a Running one nothing.

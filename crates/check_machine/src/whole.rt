@@ -99,11 +99,9 @@ fn objects_ok(
     if !rest_ok(slots, m.count * WIDTH) {
         return false;
     }
-    let r = running(chain, m.active, slots, m.count);
-    if !r.good {
+    let Some(set) = running(chain, m.active, slots, m.count) else {
         return false;
-    }
-    let set = r.set;
+    };
     if !rows_ok(
         slots,
         m.count,

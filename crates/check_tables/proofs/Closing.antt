@@ -14,7 +14,7 @@ use Rattle.lists.specs.Parts.{part, pad}
 use Rattle.lists.specs.Tests.{all_below, zeros}
 use Rattle.lists.proofs.Tests.{holds_at, holds-all}
 use Rattle.lists.proofs.Tables.{words-at}
-use Rattle.heap.specs.declared.value.Opt.{Opt}
+use Rattle.std.specs.Prelude.{Option, Some, None}
 use Rattle.model.specs.Lists.{each}
 use Rattle.model.specs.Program.{Func, Setup, func_of, no_func, between, limits_ok, costs_ok, handler_ok, function_ok, hook_ok, setup_ok}
 use Rattle.claims_sound.proofs.Tests.{and_left, and_right, both, each_at, at_each}
@@ -126,7 +126,7 @@ module _ (ws : List ℕ) where
       or-false true y e = refl
       or-false false y e = e
 
-      go : (t : Bool) → eqb (get_or ws 11 0) 0 ≡ t → hook_words (pick t Opt.None (Opt.Some (get_or ws 12 0))) ≡ get_or ws 11 0 ∷ get_or ws 12 0 ∷ []
+      go : (t : Bool) → eqb (get_or ws 11 0) 0 ≡ t → hook_words (pick t None (Some (get_or ws 12 0))) ≡ get_or ws 11 0 ∷ get_or ws 12 0 ∷ []
       go true e =
           let z = eqb-true (get_or ws 11 0) 0 e in
           let one : eqb (get_or ws 11 0) 1 ≡ false = ne_eqb (get_or ws 11 0) 1 (λ q. omega arith) in
@@ -142,7 +142,7 @@ module _ (ws : List ℕ) where
       or-one : (x : Bool) → (true || x) ≡ true
       or-one x = refl
 
-      go : (t : Bool) → eqb (get_or ws 11 0) 0 ≡ t → hook_words (pick t Opt.None (Opt.Some (get_or ws 12 0))) ≡ get_or ws 11 0 ∷ get_or ws 12 0 ∷ [] → (eqb (get_or ws 11 0) 1 || t && eqb (get_or ws 12 0) 0) ≡ true
+      go : (t : Bool) → eqb (get_or ws 11 0) 0 ≡ t → hook_words (pick t None (Some (get_or ws 12 0))) ≡ get_or ws 11 0 ∷ get_or ws 12 0 ∷ [] → (eqb (get_or ws 11 0) 1 || t && eqb (get_or ws 12 0) 0) ≡ true
       go true e q =
           let z = eqb-true (get_or ws 11 0) 0 e in
           let y : 0 ≡ get_or ws 12 0 = ap (λ (l : List ℕ). get_or l 1 0) q in
@@ -191,9 +191,9 @@ module _ (ws : List ℕ) where
     rest = replicate (length ws - length (setup_words (setup_of ws))) 0
 
     -- past the numbers
-    after : (o : Opt) → hook_of ws ≡ o → drop 14 ws ≡ words function_words (functions_of ws) ++ rest
-    after Opt.None e = ap (drop 14) held ∙ (rw e)
-    after (Opt.Some x) e = ap (drop 14) held ∙ (rw e)
+    after : (o : Option ℕ) → hook_of ws ≡ o → drop 14 ws ≡ words function_words (functions_of ws) ++ rest
+    after None e = ap (drop 14) held ∙ (rw e)
+    after (Some x) e = ap (drop 14) held ∙ (rw e)
 
     words_of : (i : ℕ) → i < n → function_words (f i) ≡ part (14 + i * 35) 35 ws
     words_of i h =
@@ -202,9 +202,9 @@ module _ (ws : List ℕ) where
         (sym (function-chunk i) ∙ ap (λ (z : List ℕ). chunk_at 35 z i) (after (hook_of ws) refl)
         ∙ words-at 35 function_words (λ z. no_func) length-function (functions_of ws) rest i no_func k ∙ ap function_words (rows_at f n i no_func h))
 
-    hook-of : (o : Opt) → hook_of ws ≡ o → hook_words (hook_of ws) ≡ get_or ws 11 0 ∷ get_or ws 12 0 ∷ []
-    hook-of Opt.None e = rw e (ap₂ (λ (a b : ℕ). a ∷ b ∷ []) (sym (ap (λ (z : List ℕ). get_or z 11 0) held ∙ (rw e))) (sym (ap (λ (z : List ℕ). get_or z 12 0) held ∙ (rw e))))
-    hook-of (Opt.Some x) e = rw e (ap₂ (λ (a b : ℕ). a ∷ b ∷ []) (sym (ap (λ (z : List ℕ). get_or z 11 0) held ∙ (rw e))) (sym (ap (λ (z : List ℕ). get_or z 12 0) held ∙ (rw e))))
+    hook-of : (o : Option ℕ) → hook_of ws ≡ o → hook_words (hook_of ws) ≡ get_or ws 11 0 ∷ get_or ws 12 0 ∷ []
+    hook-of None e = rw e (ap₂ (λ (a b : ℕ). a ∷ b ∷ []) (sym (ap (λ (z : List ℕ). get_or z 11 0) held ∙ (rw e))) (sym (ap (λ (z : List ℕ). get_or z 12 0) held ∙ (rw e))))
+    hook-of (Some x) e = rw e (ap₂ (λ (a b : ℕ). a ∷ b ∷ []) (sym (ap (λ (z : List ℕ). get_or z 11 0) held ∙ (rw e))) (sym (ap (λ (z : List ℕ). get_or z 12 0) held ∙ (rw e))))
 
   pub long_of : long_test ws ≡ true → (14 ≤ length ws) × (14 + n * 35 ≤ length ws) × (between 1 32 n ≡ true)
   long_of h =

@@ -37,9 +37,6 @@ coro-code (suc (suc (suc (suc (suc n))))) r = let k : ℕ = suc (suc (suc (suc (
 under : (ws : List ℕ) (i r end : ℕ) → lies_under r end (piled 6 frame_of (suc i) ws) ≡ ltb (get_or ws (i * 6 + 2) 0 + r) end
 under ws i r end = rw (chunk-get 6 i 2 ws (omega arith))
 
-pub under_none : (ws : List ℕ) (i r end : ℕ) → i ≡ 0 → lies_under r end (piled 6 frame_of i ws) ≡ false
-under_none ws i r end e = rw e
-
 below : (ws : List ℕ) (i r end : ℕ) → 0 < i → lies_under r end (piled 6 frame_of i ws) ≡ ltb (get_or ws ((i - 1) * 6 + 2) 0 + r) end
 below ws i r end h =
     let e : i ≡ suc (i - 1) = omega arith in

@@ -1,4 +1,5 @@
 pub mod Bools
+pub mod Ranged
 pub mod Conts
 pub mod OneFrame
 pub mod Tower

@@ -5,11 +5,10 @@ use Prim.Native.Nat.{ℕ}
 use Rattle.lists.specs.Pick.{pick, pick_true, pick-false}
 use Rattle.heap.specs.declared.fault.Fault.{Fault}
 use Rattle.heap.specs.declared.object.CoroObj.{CoroObj}
-use Rattle.heap.specs.declared.heap.Coroutine as R
-use Rattle.heap.specs.declared.heap.Coroutine.TheVariants as RV
+use Rattle.std.specs.Prelude.{Result, Ok, Err}
 use Rattle.check_tables.specs.Queue.{by_coro, mark_of}
 
-module _ (task : Bool) (i : ℕ) (x : CoroObj) (o : R.Coroutine) (e : o ≡ RV.At i x) where
+module _ (task : Bool) (i : ℕ) (x : CoroObj) (o : Result (ℕ × CoroObj) Fault) (e : o ≡ Ok (i, x)) where
   is-mark : by_coro (mark_of task) o ≡ pick task x.task x.finalized
   is-mark = ap (by_coro (mark_of task)) e
 
@@ -18,6 +17,3 @@ module _ (task : Bool) (i : ℕ) (x : CoroObj) (o : R.Coroutine) (e : o ≡ RV.A
 
   pub by-cleanup : task ≡ false → x.finalized ≡ by_coro (mark_of task) o
   by-cleanup t = sym (is-mark ∙ ap (λ b. pick b x.task x.finalized) t ∙ pick-false x.task x.finalized)
-
-pub no-mark : (task : Bool) (f : Fault) (o : R.Coroutine) → o ≡ RV.Not f → false ≡ by_coro (mark_of task) o
-no-mark task f o e = sym (ap (by_coro (mark_of task)) e)

@@ -14,9 +14,8 @@ use Rattle.heap.specs.Object as HO
 use Rattle.heap.specs.Table.{Slot, slot, names, get_in, get}
 use Rattle.heap.specs.Heap.{slots_of, as_coro, coro_by, coro_of}
 use Rattle.heap.specs.declared.value.Class.{Class}
-use Rattle.heap.specs.declared.heap.Place.{Place}
-use Rattle.heap.specs.declared.heap.Coroutine as R
-use Rattle.heap.specs.declared.heap.Coroutine.TheVariants as RV
+use Rattle.std.specs.Prelude.{Option, Result, Some, None, Ok, Err}
+use Rattle.heap.specs.declared.fault.Fault.{Fault}
 use Rattle.heap.specs.declared.object.CoroObj.{CoroObj}
 use Rattle.heap.specs.declared.object.Object as H
 use Rattle.heap.specs.declared.object.Object.TheVariants as O
@@ -46,7 +45,7 @@ module _ (f : H.Object → Object) (filled : (o : H.Object) → is_filled (f o) 
 
   in-mapped : (ys : List (Slot H.Object)) (k : Class) → get_in Object.Empty is_filled (mapped ys) k ≡ get_in O.Empty HO.is_filled ys k
   in-mapped ys Class.Nil = refl
-  in-mapped ys (Class.Ref o) = ap (λ (b : Bool). pick b (Place.At (slot_of o.0)) Place.Nothing) (names-mapped ys o.0)
+  in-mapped ys (Class.Ref o) = ap (λ (b : Bool). pick b (Some (slot_of o.0)) None) (names-mapped ys o.0)
   in-mapped ys (Class.Int n) = refl
   in-mapped ys Class.Opaque = refl
 
@@ -60,15 +59,15 @@ module _ (f : H.Object → Object) (filled : (o : H.Object) → is_filled (f o) 
     by-object i (O.Error e g p v) = refl
     by-object i (O.Coro c) = refl
 
-    by_place : (ys : List (Slot H.Object)) (v : ℕ) (p : Place) → as-test (M.as_coro (object_at (mapped ys) p)) ≡ by_coro test (coro_by ys v p)
-    by_place ys v Place.Nothing = absent
-    by_place ys v (Place.At i) =
+    by_place : (ys : List (Slot H.Object)) (v : ℕ) (p : Option ℕ) → as-test (M.as_coro (object_at (mapped ys) p)) ≡ by_coro test (coro_by ys v p)
+    by_place ys v None = absent
+    by_place ys v (Some i) =
         ap (λ (x : Slot Object). as-test (M.as_coro x.object)) (at-mapped ys i) ∙ agree (get_or ys i (slot 0 O.Empty)).object
         ∙ sym (by-object i (get_or ys i (slot 0 O.Empty)).object)
 
     pub test-same : (ys : List (Slot H.Object)) (v : ℕ) → as-test (coro_in (mapped ys) v) ≡ by_coro test (coro_of ys v)
     test-same ys v =
-        ap (λ (p : Place). as-test (M.as_coro (object_at (mapped ys) p))) (in-mapped ys (class_of v)) ∙ by_place ys v (get O.Empty HO.is_filled ys v)
+        ap (λ (p : Option ℕ). as-test (M.as_coro (object_at (mapped ys) p))) (in-mapped ys (class_of v)) ∙ by_place ys v (get O.Empty HO.is_filled ys v)
 
 -- ---- without what is saved
 
@@ -111,9 +110,9 @@ none_named = refl
 is-there : (test : CoroObj → Bool) (ys : List (Slot H.Object)) (v : ℕ) → by_coro test (coro_of ys v) ≡ true → by_coro (λ c. true) (coro_of ys v) ≡ true
 is-there test ys v h = go (coro_of ys v) h
   where
-    go : (c : R.Coroutine) → by_coro test c ≡ true → by_coro (λ x. true) c ≡ true
-    go (RV.At i c) e = refl
-    go (RV.Not g) e = no_false e
+    go : (c : Result (ℕ × CoroObj) Fault) → by_coro test c ≡ true → by_coro (λ x. true) c ≡ true
+    go (Ok (i, c)) e = refl
+    go (Err g) e = no_false e
 
 -- a word that names a coroutine: its slot, and its tag
 pub record Word (ys : List (Slot H.Object)) (v : ℕ) : Type 0 where

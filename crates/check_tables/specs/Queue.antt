@@ -1,20 +1,19 @@
 -- A queue in words: each names a coroutine that is marked, and none stands there twice.
-use Rattle.std.specs.Prelude.{Bool, false, ◌&&◌, List, ℕ, ◌*◌, ◌/◌, ◌%◌, ◌^◌, ◌≤◌, eqb, length, get_or, take}
+use Rattle.std.specs.Prelude.{Bool, false, ◌&&◌, List, ℕ, ◌*◌, ◌/◌, ◌%◌, ◌^◌, ◌≤◌, eqb, length, get_or, take, Result, Ok, Err}
 use Rattle.lists.specs.Pick.{pick}
 use Rattle.heap.specs.Slot.{width}
 use Rattle.heap.specs.Table.{Slot}
 use Rattle.heap.specs.Heap.{coro_of}
 use Rattle.heap.specs.declared.object.CoroObj.{CoroObj}
 use Rattle.heap.specs.declared.object.Object as H
-use Rattle.heap.specs.declared.heap.Coroutine as R
-use Rattle.heap.specs.declared.heap.Coroutine.TheVariants as RV
+use Rattle.heap.specs.declared.fault.Fault.{Fault}
 use Rattle.model.specs.Lists.{each, distinct}
 use Rattle.memory_sound.specs.Words.{rest_ok}
 
 -- what a word names is a coroutine that passes a test
-abbrev pub by_coro : (CoroObj → Bool) → R.Coroutine → Bool
-by_coro test (RV.At i c) = test c
-by_coro test (RV.Not f) = false
+abbrev pub by_coro : (CoroObj → Bool) → Result (ℕ × CoroObj) Fault → Bool
+by_coro test (Ok (i, c)) = test c
+by_coro test (Err f) = false
 
 -- a task; handed over for a cleanup
 abbrev pub mark_of : Bool → CoroObj → Bool

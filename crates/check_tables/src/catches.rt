@@ -6,7 +6,6 @@ ghost use Rattle.memory_sound.specs.Words.{setup_held};
 ghost use Rattle.check_tables.specs.Frames.{catch_width, Catches};
 ghost use Rattle.check_tables.specs.Catch.{CatchFits};
 
-use heap::int::larger;
 use memory_tables::layout;
 use memory_tables::program::{FUNCTION_WIDTH, HANDLER_WIDTH, NUMBERS_WIDTH};
 use model::program::MOST_FUNCTIONS;
@@ -17,11 +16,9 @@ fn widest_catch(setup: &[u64], at: usize, n: usize) -> u64
     ensures { result ≡ catch_width (take n (handlers_from 8 setup.now at)) }
 {
     let mut most: u64 = 0;
-    let mut j = n;
-    while j > 0 {
-        j -= 1;
+    for j in (0..n).rev() {
         let c = setup[at + j * HANDLER_WIDTH + layout::CATCH];
-        most = larger(c + 1, most);
+        most = (c + 1).max(most);
     }
     most
 }
@@ -33,13 +30,10 @@ pub fn catches(setup: &[u64]) -> [u64; MOST_FUNCTIONS]
 {
     let n = setup[layout::FUNCTIONS] as usize;
     let mut need = [0u64; MOST_FUNCTIONS];
-    let mut i = 0;
-    while i < n {
+    for i in 0..n {
         let at = NUMBERS_WIDTH + i * FUNCTION_WIDTH;
         let k = setup[at + layout::HANDLERS] as usize;
-        let w = widest_catch(setup, at + layout::FIRST_HANDLER, k);
-        need[i] = w;
-        i += 1;
+        need[i] = widest_catch(setup, at + layout::FIRST_HANDLER, k);
     }
     need
 }

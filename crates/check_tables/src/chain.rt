@@ -37,16 +37,9 @@ fn driver_lies(frames: &[u64], i: usize, code: u64, a: u64, b: u64, c: u64, end:
     requires { i * 6 ≤ length frames.now }
     ensures { result ≡ driver_lies (driver_of code a b c) end (piled 6 frame_of i frames.now) }
 {
-    if active::ITER < code {
-        return true;
-    }
-    if !lies_under(frames, i, a, end) {
-        return false;
-    }
-    if code == active::RESUME {
-        return true;
-    }
-    lies_under(frames, i, b, end)
+    active::ITER < code
+        || (lies_under(frames, i, a, end)
+            && (code == active::RESUME || lies_under(frames, i, b, end)))
 }
 
 // The active one at place k, whose body is frame i.
@@ -74,10 +67,8 @@ fn chain_over(chain: &[u64], frames: &[u64], n: usize, depth: usize) -> bool
     requires { ChainFits chain.now frames.now n depth }
     ensures { result ≡ chain_test chain.now frames.now depth n }
 {
-    let mut i = depth;
     let mut k = n;
-    while i > 0 {
-        i -= 1;
+    for i in (0..depth).rev() {
         if frame::DISCARD < frames[i * FRAME_WIDTH + frame::CODE] {
             if k == 0 {
                 return false;
@@ -96,8 +87,5 @@ pub fn chain_ok(chain: &[u64], frames: &[u64], n: usize, depth: usize) -> bool
     requires { ChainFits chain.now frames.now n depth }
     ensures { result ≡ chain_ok chain.now n frames.now depth }
 {
-    if !chain_over(chain, frames, n, depth) {
-        return false;
-    }
-    crate::rest::rest_ok(chain, n * ACTIVE_WIDTH)
+    chain_over(chain, frames, n, depth) && crate::rest::rest_ok(chain, n * ACTIVE_WIDTH)
 }

@@ -23,10 +23,7 @@ pub(crate) fn lies_under(ws: &[u64], i: usize, r: u64, end: u64) -> bool
     }
     let below = i - 1;
     let base = base_at(ws, below) as u64;
-    if base < end {
-        return r < end - base;
-    }
-    false
+    base < end && r < end - base
 }
 
 // The continuation of the frame at place i, which begins at `base`: a code with its register, at a place where it may stand.
@@ -103,10 +100,8 @@ fn frames_over(
     requires { FramesFit ws.now need.now setup.now n }
     ensures { result ≡ frames_test saved (setup_of setup.now) ws.now n end }
 {
-    let mut i = n;
     let mut e = end;
-    while i > 0 {
-        i -= 1;
+    for i in (0..n).rev() {
         if !frame_ok(ws, setup, need, saved, i, e) {
             return false;
         }
@@ -126,10 +121,8 @@ pub fn stack_frames_ok(
     requires { FramesFit ws.now need.now setup.now n }
     ensures { result ≡ stack_frames_ok (setup_of setup.now) ws.now n height }
 {
-    if !frames_over(ws, setup, need, false, n, height as u64) {
-        return false;
-    }
-    crate::rest::rest_ok(ws, n * FRAME_WIDTH)
+    frames_over(ws, setup, need, false, n, height as u64)
+        && crate::rest::rest_ok(ws, n * FRAME_WIDTH)
 }
 
 // The n frames of a row with so many saved registers, and zeros after them.
@@ -146,8 +139,5 @@ pub fn saved_frames_ok(
     if n == 0 {
         return false;
     }
-    if !frames_over(ws, setup, need, true, n, regs) {
-        return false;
-    }
-    crate::rest::rest_ok(ws, n * FRAME_WIDTH)
+    frames_over(ws, setup, need, true, n, regs) && crate::rest::rest_ok(ws, n * FRAME_WIDTH)
 }

@@ -3,7 +3,6 @@ ghost use Rattle.std.specs.Prelude.{◌≡◌, ◌||◌, ℕ, ◌<◌, eqb, take
 ghost use Rattle.heap.specs.Heap.{TableFits, slots_of, coro_of};
 ghost use Rattle.check_tables.specs.Queue.{by_coro, mark_of, entries_ok, queue_held, bit_at, QueueAsks};
 
-use heap::heap::CoroPlace;
 use heap::value::{Obj, Word};
 use model::program::MOST_SLOTS;
 
@@ -12,14 +11,13 @@ fn is_marked(slots: &[u64], count: usize, task: bool, w: u64) -> bool
     requires { TableFits slots.now count }
     ensures { result ≡ by_coro (mark_of task) (coro_of (slots_of count slots.now) w) }
 {
-    match heap::heap::coro_place(slots, count, Word(w)) {
-        CoroPlace::Not(_) => false,
-        CoroPlace::At(i) => {
-            if task {
-                return heap::field::task_at(slots, i);
-            }
-            heap::field::finalized_at(slots, i)
-        }
+    let Ok(i) = heap::heap::coro_place(slots, count, Word(w)) else {
+        return false;
+    };
+    if task {
+        heap::field::task_at(slots, i)
+    } else {
+        heap::field::finalized_at(slots, i)
     }
 }
 
@@ -45,9 +43,7 @@ fn entries_ok(q: &[u64], n: usize, slots: &[u64], count: usize, task: bool) -> b
     ensures { result ≡ entries_ok task (slots_of count slots.now) (take n q.now) }
 {
     let mut seen = [false; MOST_SLOTS];
-    let mut i = n;
-    while i > 0 {
-        i -= 1;
+    for i in (0..n).rev() {
         let w = q[i];
         if !is_marked(slots, count, task, w) {
             return false;
@@ -66,8 +62,5 @@ pub fn queue_ok(q: &[u64], n: usize, slots: &[u64], count: usize, task: bool) ->
     requires { QueueAsks q.now slots.now n count }
     ensures { result ≡ queue_held task (slots_of count slots.now) q.now n }
 {
-    if !entries_ok(q, n, slots, count, task) {
-        return false;
-    }
-    crate::rest::rest_ok(q, n)
+    entries_ok(q, n, slots, count, task) && crate::rest::rest_ok(q, n)
 }

@@ -7,8 +7,5 @@ pub fn rest_ok(ws: &[u64], from: usize) -> bool
     ensures { result ≡ rest_ok ws.now from }
 {
     let end = ws.len();
-    if end <= from {
-        return true;
-    }
-    lists::all_zero(&ws[from..end])
+    end <= from || lists::all_zero(&ws[from..end])
 }

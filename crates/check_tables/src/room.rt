@@ -22,51 +22,25 @@ pub fn room_ok(
     ensures { result ≡ room_test sizes stack frames chain slots saved_stack saved_frames ready finalize }
 {
     let records = sizes.depth * FRAME_WIDTH;
-    if stack < sizes.stack {
-        return false;
-    }
-    if frames < records {
-        return false;
-    }
-    if chain < records {
-        return false;
-    }
-    if slots < sizes.slots * WIDTH {
-        return false;
-    }
-    if saved_stack < sizes.rows * sizes.width {
-        return false;
-    }
-    if saved_frames < sizes.rows * records {
-        return false;
-    }
-    if ready < sizes.slots {
-        return false;
-    }
-    sizes.slots <= finalize
+    sizes.stack <= stack
+        && records <= frames
+        && records <= chain
+        && sizes.slots * WIDTH <= slots
+        && sizes.rows * sizes.width <= saved_stack
+        && sizes.rows * records <= saved_frames
+        && sizes.slots <= ready
+        && sizes.slots <= finalize
 }
 
 // Whether a machine's numbers are within its limits.
 pub fn counts_ok(sizes: Sizes, m: Machine) -> bool
     ensures { result ≡ counts_test sizes m }
 {
-    if sizes.stack < m.height {
-        return false;
-    }
-    if sizes.depth < m.depth {
-        return false;
-    }
-    if sizes.depth < m.active {
-        return false;
-    }
-    if sizes.slots < m.count {
-        return false;
-    }
-    if sizes.slots < m.ready {
-        return false;
-    }
-    if sizes.slots < m.finalize {
-        return false;
-    }
-    m.used <= sizes.memory
+    m.height <= sizes.stack
+        && m.depth <= sizes.depth
+        && m.active <= sizes.depth
+        && m.count <= sizes.slots
+        && m.ready <= sizes.slots
+        && m.finalize <= sizes.slots
+        && m.used <= sizes.memory
 }

@@ -18,48 +18,29 @@ use model::program::{
 fn between(a: u64, b: u64, n: u64) -> bool
     ensures { result ≡ between a b n }
 {
-    if n < a {
-        return false;
-    }
-    n <= b
+    a <= n && n <= b
 }
 
 // "Depth 1-128, stack 1-1,024 words, rows 1-64, slots 1-4,096 .. Memory limit: any 64-bit number."
 fn limits_ok(limits: Limits) -> bool
     ensures { result ≡ limits_ok limits }
 {
-    if !between(1, MOST_DEPTH, limits.depth) {
-        return false;
-    }
-    if !between(1, MOST_STACK as u64, limits.stack) {
-        return false;
-    }
-    if !between(1, MOST_ROWS as u64, limits.rows) {
-        return false;
-    }
-    between(1, MOST_SLOTS as u64, limits.slots)
+    between(1, MOST_DEPTH, limits.depth)
+        && between(1, MOST_STACK as u64, limits.stack)
+        && between(1, MOST_ROWS as u64, limits.rows)
+        && between(1, MOST_SLOTS as u64, limits.slots)
 }
 
 // "Costs 0-65,536."
 fn costs_ok(c: Costs) -> bool
     ensures { result ≡ costs_ok c }
 {
-    if MOST_COST < c.frame {
-        return false;
-    }
-    if MOST_COST < c.coro {
-        return false;
-    }
-    if MOST_COST < c.object {
-        return false;
-    }
-    if MOST_COST < c.int {
-        return false;
-    }
-    if MOST_COST < c.error {
-        return false;
-    }
-    c.iter <= MOST_COST
+    c.frame <= MOST_COST
+        && c.coro <= MOST_COST
+        && c.object <= MOST_COST
+        && c.int <= MOST_COST
+        && c.error <= MOST_COST
+        && c.iter <= MOST_COST
 }
 
 // "each with a catch register of its own frame"
@@ -67,28 +48,17 @@ fn handler_ok(setup: &[u64], at: usize, regs: u64) -> bool
     requires { at + 4 ≤ length setup.now }
     ensures { result ≡ handler_ok regs (handler_from setup.now at) }
 {
-    if regs <= setup[at + layout::CATCH] {
-        return false;
-    }
-    if BITS32 <= setup[at] {
-        return false;
-    }
-    if BITS32 <= setup[at + layout::END] {
-        return false;
-    }
-    setup[at + layout::TARGET] < BITS32
+    setup[at + layout::CATCH] < regs
+        && setup[at] < BITS32
+        && setup[at + layout::END] < BITS32
+        && setup[at + layout::TARGET] < BITS32
 }
 
 fn handlers_ok(setup: &[u64], at: usize, n: usize, regs: u64) -> bool
     requires { at + n * 4 ≤ length setup.now }
     ensures { result ≡ handlers_test setup.now at n regs }
 {
-    for j in 0..n {
-        if !handler_ok(setup, at + j * HANDLER_WIDTH, regs) {
-            return false;
-        }
-    }
-    true
+    (0..n).all(|j| handler_ok(setup, at + j * HANDLER_WIDTH, regs))
 }
 
 // "registers 0-256, parameters at most registers. Every function has at most eight handlers"
@@ -121,12 +91,7 @@ fn functions_ok(setup: &[u64], n: usize) -> bool
     requires { 14 + n * 35 ≤ length setup.now }
     ensures { result ≡ all_below n (λ i. function_test setup.now (14 + i * 35)) }
 {
-    for i in 0..n {
-        if !function_ok(setup, NUMBERS_WIDTH + i * FUNCTION_WIDTH) {
-            return false;
-        }
-    }
-    true
+    (0..n).all(|i| function_ok(setup, NUMBERS_WIDTH + i * FUNCTION_WIDTH))
 }
 
 // "Hook: none, or a function with a register."
@@ -157,12 +122,8 @@ fn long_ok(setup: &[u64]) -> bool
         return false;
     }
     let n = setup[layout::FUNCTIONS];
-    if !between(1, MOST_FUNCTIONS as u64, n) {
-        return false;
-    }
-    let k = n as usize;
-    let need = NUMBERS_WIDTH + k * FUNCTION_WIDTH;
-    need <= setup.len()
+    between(1, MOST_FUNCTIONS as u64, n)
+        && NUMBERS_WIDTH + n as usize * FUNCTION_WIDTH <= setup.len()
 }
 
 // Whether the words are those of a set-up that 01's closing list accepts, with zeros after them.

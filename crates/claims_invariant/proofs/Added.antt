@@ -5,7 +5,9 @@ use Prim.Native.Nat.{ℕ, ◌^◌}
 use lib.ListN.{length}
 use lib.Dec.{eqb, ltb}
 use Rattle.heap.specs.Word.{nil}
-use Rattle.heap.specs.declared.value.Opt.{Opt}
+use Rattle.std.specs.Prelude.{Option, Result, Some, None, Ok, Err}
+use Rattle.model.specs.declared.coro.Entered.{Entered}
+use Rattle.heap.specs.declared.fault.Fault.{Fault}
 use Rattle.model.specs.Lists.{is_nil}
 use Rattle.model.specs.State.{is_suspended}
 use Rattle.model.specs.Program.{is_function}
@@ -19,9 +21,6 @@ use Rattle.model.specs.Sound.{cont_lies, is_none}
 use Rattle.model.specs.declared.machine.Cont.{Cont}
 use Rattle.model.specs.declared.machine.Driver.{Driver}
 use Rattle.model.specs.declared.machine.Fuel.{Fuel}
-use Rattle.model.specs.declared.machine.Outcome.{Outcome}
-use Rattle.model.specs.declared.coro.WordOr.{WordOr}
-use Rattle.model.specs.declared.coro.Entered.{Entered}
 use Rattle.claims_sound.proofs.Tests.{no_false, and_left, and_right, or-second, picked, or_right, negate}
 use Rattle.claims_sound.proofs.Sound.{Sound}
 use Rattle.claims_sound.proofs.Tower.{put-sound, store-sound}
@@ -33,22 +32,22 @@ use Rattle.claims_sound.proofs.Charge.{task-good, calm-store}
 use Rattle.claims_invariant.proofs.Unwind.{Fine, push-good}
 use Rattle.claims_sound.proofs.Good.{Good, good, then-good, made_fine, entered_fine, fine-not_a, calm-top, top-under}
 
-pushed-or : {ex : Bool} (w u : World) (m : WordOr) → Sound ex w → Sound ex u → made_fine m ≡ true → Good ex Fine (pushed_or w u m)
-pushed-or w u (WordOr.Word base) h k e = good k refl
-pushed-or w u (WordOr.Refused f) h k e = good h e
+pushed-or : {ex : Bool} (w u : World) (m : Result ℕ Fault) → Sound ex w → Sound ex u → made_fine m ≡ true → Good ex Fine (pushed_or w u m)
+pushed-or w u (Ok base) h k e = good k refl
+pushed-or w u (Err f) h k e = good h e
 
-answer-made : {ex : Bool} (u : World) (m : WordOr) → Sound ex u → made_fine m ≡ true → Good ex Fine (answer_made u m)
-answer-made u (WordOr.Word v) h e = good h refl
-answer-made u (WordOr.Refused f) h e = good h e
+answer-made : {ex : Bool} (u : World) (m : Result ℕ Fault) → Sound ex u → made_fine m ≡ true → Good ex Fine (answer_made u m)
+answer-made u (Ok v) h e = good h refl
+answer-made u (Err f) h e = good h e
 
 pub host-call-good : {ex : Bool} (f : ℕ) (w : World) → is_nil w.frames ≡ true → is_function w.setup f ≡ true → Sound ex w → Good ex Fine (host_call f w)
 unfolding host_call
 host-call-good f w empty is h = then-good (pushed_or w) (push-good f nil Cont.Entry w h is refl empty refl refl) (λ u m k e. pushed-or w u m h k e)
 
-host-arrive : {ex : Bool} (v : ℕ) (u : World) (e : Entered) → Sound ex u → entered_fine e ≡ true → Good ex Fine (host_arrive v u e)
-host-arrive v u Entered.Fresh h f = good h refl
-host-arrive v u (Entered.Suspended d) h f = good (send-sound d v u h) refl
-host-arrive v u (Entered.Refused x) h f = good h f
+host-arrive : {ex : Bool} (v : ℕ) (u : World) (e : Result Entered Fault) → Sound ex u → entered_fine e ≡ true → Good ex Fine (host_arrive v u e)
+host-arrive v u (Ok Entered.Fresh) h f = good h refl
+host-arrive v u (Ok (Entered.Suspended d)) h f = good (send-sound d v u h) refl
+host-arrive v u (Err x) h f = good h f
 
 pub host-entry-good : {ex : Bool} (c v : ℕ) (w : World) → Sound ex w → Good ex Fine (host_entry c v w)
 unfolding host_entry
@@ -99,12 +98,12 @@ make-iterator-good {ex} v w h = go (coro w v)
     go : (c : Coroutine) → Good ex Fine (iterator_over c v w)
     go Absent = good h (fine-not_a w v)
     go (Is k r) =
-        then-good answer_made (alloc-plain w.setup.costs.iter (Object.Iter v false Opt.None) w h (record { sizes = refl; saved = refl; rowless = refl; range = refl; wide = λ _. refl }) refl refl)
+        then-good answer_made (alloc-plain w.setup.costs.iter (Object.Iter v false None) w h (record { sizes = refl; saved = refl; rowless = refl; range = refl; wide = λ _. refl }) refl refl)
         (λ u m s p. answer-made u m s p.fine)
 
 pub take-outcome-good : {ex : Bool} (w : World) → Sound ex w → Good ex Fine (take_outcome w)
 unfolding take_outcome
-take-outcome-good w h = good (outcome-sound Outcome.None w refl h) refl
+take-outcome-good w h = good (outcome-sound None w refl h) refl
 
 pub hand-over-good : {ex : Bool} (v : ℕ) (w : World) → Sound ex w → Good ex Fine (hand_over v w)
 unfolding hand_over
@@ -116,9 +115,9 @@ hand-over-good {ex} v w h = go (coro w v) refl
         picked (Good ex Fine) (not (is_suspended k.state) || r.finalized) (λ _. good h refl)
         (λ t. good (finalizing-sound w.finalizing _ (handed-sound w v k r h e (or-second (not (is_suspended k.state)) r.finalized t))) refl)
 
-refuel-ok : (o : Opt) (n : ℕ) (f : Fuel) → f.bank ≡ o → bank_ok f ≡ true → bank_ok (refuel o n f) ≡ true
-refuel-ok Opt.None n f e h = ap (λ b. is_none b || eqb n 0) e
-refuel-ok (Opt.Some b) n f e h = ap (λ o. is_none o || eqb f.fuel 0) (sym e) ∙ h
+refuel-ok : (o : Option ℕ) (n : ℕ) (f : Fuel) → f.bank ≡ o → bank_ok f ≡ true → bank_ok (refuel o n f) ≡ true
+refuel-ok None n f e h = ap (λ b. is_none b || eqb n 0) e
+refuel-ok (Some b) n f e h = ap (λ o. is_none o || eqb f.fuel 0) (sym e) ∙ h
 
 pub grant-good : {ex : Bool} (n : ℕ) (w : World) → Sound ex w → Good ex Fine (grant n w)
 unfolding grant

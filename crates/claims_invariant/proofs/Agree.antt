@@ -9,9 +9,10 @@ use lib.Dec.{eqb, leb}
 use Rattle.heap.specs.Word.{nil}
 use Rattle.heap.specs.Coding.{of_bits}
 use Rattle.heap.specs.Int.{inline_of, exactly, value_of}
-use Rattle.heap.specs.declared.value.Opt.{Opt}
-use Rattle.heap.specs.declared.int.Exact.{Exact}
-use Rattle.heap.specs.declared.int.Inline.{Inline}
+use Rattle.std.specs.Prelude.{Option, Result, Some, None, Ok, Err}
+use Rattle.model.specs.declared.coro.Entered.{Entered}
+use Rattle.heap.specs.declared.fault.Fault.{Fault}
+use Rattle.heap.specs.declared.value.Word.{Word}
 use Rattle.heap.specs.declared.int.IntTy.{IntTy}
 use Rattle.heap.specs.declared.object.CoroState.{CoroState}
 use Rattle.model.specs.Lists.{is_nil}
@@ -31,11 +32,7 @@ use Rattle.model.specs.declared.machine.Driver.{Driver}
 use Rattle.model.specs.declared.machine.Fuel.{Fuel}
 use Rattle.model.specs.declared.machine.Stop.{Stop}
 use Rattle.model.specs.declared.coro.Event.{Event}
-use Rattle.model.specs.declared.coro.Keys.{Keys}
-use Rattle.model.specs.declared.coro.Entered.{Entered}
-use Rattle.model.specs.declared.coro.Suspension.{Suspension}
 use Rattle.model.specs.declared.coro.Started.{Started}
-use Rattle.model.specs.declared.call.OptPc.{OptPc}
 use Rattle.heap.specs.declared.heap.ResultKind.{ResultKind}
 use Rattle.claims_invariant.specs.Reachable.{final_of, finals, one_if, AgreeOf, Owing, Agree, host_low, hosts_low}
 use Rattle.claims_sound.proofs.Tests.{no_false, no_true, or_left, or_right, or_else, and_right, picked, both}
@@ -50,7 +47,7 @@ Ag o = Agree o.world
 pub change-owing : (n : ℕ) (v : ℕ) (f : Core → Core) (g : Rest → Rest) (w : World) → Owing n w → Owing n (change_coro v f g w)
 change-owing n v f g w h = changed (λ u. Owing n u) w v f g h (λ k r e. h)
 
-iter-agree : (w : World) (v : ℕ) (f : Bool → Bool) (g : Opt → Opt) → Agree w → (o : Object) → Agree (change_iter_in o v f g w)
+iter-agree : (w : World) (v : ℕ) (f : Bool → Bool) (g : Option ℕ → Option ℕ) → Agree w → (o : Object) → Agree (change_iter_in o v f g w)
 iter-agree w v f g h Object.Empty = h
 iter-agree w v f g h (Object.Func n) = h
 iter-agree w v f g h (Object.Int n) = h
@@ -62,7 +59,7 @@ pub done-agree : (v : ℕ) (w : World) → Agree w → Agree (set_done v w)
 done-agree v w h = iter-agree w v (λ _. true) (λ k. k) h (object w v)
 
 key-agree : (v key : ℕ) (w : World) → Agree w → Agree (set_key v key w)
-key-agree v key w h = iter-agree w v (λ d. d) (λ _. Opt.Some key) h (object w v)
+key-agree v key w h = iter-agree w v (λ d. d) (λ _. Some key) h (object w v)
 
 pub alloc-agree : (bytes : ℕ) (o : Object) (w : World) → Agree w → Ag (alloc bytes o w)
 unfolding alloc
@@ -71,13 +68,13 @@ alloc-agree bytes o w h = picked Ag (not (fits w bytes)) (λ _. h) (λ _. picked
 pub int-agree : (n : ℕ) (w : World) → Agree w → Ag (encode_int n w)
 int-agree n w h = go (inline_of (of_bits 63 n))
   where
-    go : (i : Inline) → Ag (encode_at i n w)
-    go (Inline.At x) = h
-    go Inline.Large = alloc-agree w.setup.costs.int (Object.Int n) w h
+    go : (i : Option Word) → Ag (encode_at i n w)
+    go (Some x) = h
+    go None = alloc-agree w.setup.costs.int (Object.Int n) w h
 
-exact-agree : (x : Exact) (w : World) → Agree w → Ag (encode_exact x w)
-exact-agree (Exact.Fits n) w h = int-agree n w h
-exact-agree Exact.Over w h = h
+exact-agree : (x : Option ℕ) (w : World) → Agree w → Ag (encode_exact x w)
+exact-agree (Some n) w h = int-agree n w h
+exact-agree None w h = h
 
 pub dyn-agree : (kind : ResultKind) (v : ℕ) (w : World) → Agree w → Ag (to_dyn kind v w)
 unfolding to_dyn
@@ -102,24 +99,24 @@ task-agree v w h = go (coro w v)
 
 -- ---- fuel
 
-arm-at : (o : Opt) (f : Fuel) → f.bank ≡ o → (is_none f.bank || f.ready) ≡ true → (is_none (arm_at o f).bank || (arm_at o f).ready) ≡ true
-arm-at Opt.None f e h = picked (λ (x : Fuel). (is_none x.bank || x.ready) ≡ true) f.ready (λ r. r) (λ _. h)
-arm-at (Opt.Some n) f e h = h
+arm-at : (o : Option ℕ) (f : Fuel) → f.bank ≡ o → (is_none f.bank || f.ready) ≡ true → (is_none (arm_at o f).bank || (arm_at o f).ready) ≡ true
+arm-at None f e h = picked (λ (x : Fuel). (is_none x.bank || x.ready) ≡ true) f.ready (λ r. r) (λ _. h)
+arm-at (Some n) f e h = h
 
-arm-ready : (o : Opt) (f : Fuel) → (arm_at o f).ready ≡ f.ready
-arm-ready Opt.None f = picked (λ (x : Fuel). x.ready ≡ f.ready) f.ready (λ _. refl) (λ _. refl)
-arm-ready (Opt.Some n) f = refl
+arm-ready : (o : Option ℕ) (f : Fuel) → (arm_at o f).ready ≡ f.ready
+arm-ready None f = picked (λ (x : Fuel). x.ready ≡ f.ready) f.ready (λ _. refl) (λ _. refl)
+arm-ready (Some n) f = refl
 
 pub arm-agree : (w : World) → Agree w → Agree (arm_close w)
 arm-agree w h = record { ready = arm-ready w.fuel.bank w.fuel ∙ h.ready; bank = arm-at w.fuel.bank w.fuel refl h.bank; active = h.active; hosts = h.hosts }
 
-unbank-at : (o : Opt) (f : Fuel) → f.bank ≡ o → is_none (unbank_at o f).bank ≡ true
-unbank-at Opt.None f e = ap is_none e
-unbank-at (Opt.Some n) f e = refl
+unbank-at : (o : Option ℕ) (f : Fuel) → f.bank ≡ o → is_none (unbank_at o f).bank ≡ true
+unbank-at None f e = ap is_none e
+unbank-at (Some n) f e = refl
 
-unbank-ready : (o : Opt) (f : Fuel) → (unbank_at o f).ready ≡ f.ready
-unbank-ready Opt.None f = refl
-unbank-ready (Opt.Some n) f = refl
+unbank-ready : (o : Option ℕ) (f : Fuel) → (unbank_at o f).ready ≡ f.ready
+unbank-ready None f = refl
+unbank-ready (Some n) f = refl
 
 pub unbank-agree : (w : World) → Agree w → Agree (unbank w)
 unbank-agree w h =
@@ -169,7 +166,7 @@ unfolding coro_enter
 enter-agree v d w h z y = enter-as v d w (coro w v) h z y
 
 -- an entry by a cleanup, where none runs
-record Begins (w u : World) (e : Entered) : Type 0 where
+record Begins (w u : World) (e : Result Entered Fault) : Type 0 where
   bank : u.fuel ≡ w.fuel
   queue : u.finalize ≡ w.finalize
   active : is_entered e ≡ true → finals u.chain ≡ 1 + finals w.chain
@@ -178,9 +175,9 @@ record Begins (w u : World) (e : Entered) : Type 0 where
 begin-as : (v : ℕ) (w : World) (c : Coroutine) → Begins w (enter_as c v Driver.Finalize w).world (enter_as c v Driver.Finalize w).answer
 begin-as v w Absent = record { bank = refl; queue = refl; active = λ z. no_false z; hosts = λ z. z }
 begin-as v w (Is k r) =
-    picked (λ (o : After Entered). Begins w o.world o.answer) (not (is_resumable k.state) || is_nil k.frames) (λ _. record { bank = refl; queue = refl; active = λ z. no_false z; hosts = λ z. z })
+    picked (λ (o : After (Result Entered Fault)). Begins w o.world o.answer) (not (is_resumable k.state) || is_nil k.frames) (λ _. record { bank = refl; queue = refl; active = λ z. no_false z; hosts = λ z. z })
     (λ _.
-    picked (λ (o : After Entered). Begins w o.world o.answer) (overflows k w) (λ _. record { bank = refl; queue = refl; active = λ z. no_false z; hosts = λ z. z })
+    picked (λ (o : After (Result Entered Fault)). Begins w o.world o.answer) (overflows k w) (λ _. record { bank = refl; queue = refl; active = λ z. no_false z; hosts = λ z. z })
     (λ _. record { bank = refl; queue = refl; active = λ _. refl; hosts = λ z. z }))
 
 begins : (v : ℕ) (w : World) → Begins w (coro_enter v Driver.Finalize w).world (coro_enter v Driver.Finalize w).answer
@@ -189,9 +186,9 @@ begins v w = begin-as v w (coro w v)
 
 -- ---- suspensions
 
-abbrev pub Suspended : World → Suspension → Type 0
-Suspended u (Suspension.Done d e) = Owing (final_of d) u
-Suspended u (Suspension.Refused f) = Agree u
+abbrev pub Suspended : World → Result (Driver × Event) Fault → Type 0
+Suspended u (Ok (d, e)) = Owing (final_of d) u
+Suspended u (Err f) = Agree u
 
 popped : {b : Bool} {q : List ℕ} {f : Fuel} {c chain : List Active} (a : Active) → c ≡ a ∷ chain → AgreeOf 0 b q f c → AgreeOf (final_of a.driver) b q f chain
 popped {c = c} {chain} a e h =
@@ -202,14 +199,14 @@ popped {c = c} {chain} a e h =
       hosts = and_right (host_low a.driver a.floor) _ (subst (λ y. hosts_low y ≡ true) e h.hosts);
     }
 
-module _ (st : CoroState) (dst payload : ℕ) (key : Keys) (w : World) (h : Agree w) where
+module _ (st : CoroState) (dst payload : ℕ) (key : Option (ℕ × ℕ)) (w : World) (h : Agree w) where
   suspend-on : (chain : List Active) → w.chain ≡ chain → Suspended (suspend_innermost chain st dst payload key w).world (suspend_innermost chain st dst payload key w).answer
   suspend-on [] q = h
-  suspend-on (a ∷ chain) q = picked (λ (o : After Suspension). Suspended o.world o.answer) (leb (length w.frames) a.floor) (λ _. h) (λ _. go (coro w a.coro))
+  suspend-on (a ∷ chain) q = picked (λ (o : After (Result (Driver × Event) Fault)). Suspended o.world o.answer) (leb (length w.frames) a.floor) (λ _. h) (λ _. go (coro w a.coro))
     where
       go : (c : Coroutine) → Suspended (suspend_coroutine c a chain (saved st dst a.floor w) payload key w).world (suspend_coroutine c a chain (saved st dst a.floor w) payload key w).answer
       go Absent = h
-      go (Is k r) = picked (λ (o : After Suspension). Suspended o.world o.answer) (not (fits w (growth w (saved st dst a.floor w) r))) (λ _. h) (λ _. popped a q h)
+      go (Is k r) = picked (λ (o : After (Result (Driver × Event) Fault)). Suspended o.world o.answer) (not (fits w (growth w (saved st dst a.floor w) r))) (λ _. h) (λ _. popped a q h)
 
   pub suspend-agree : Suspended (coro_suspend st dst payload key w).world (coro_suspend st dst payload key w).answer
   unfolding coro_suspend
@@ -300,10 +297,10 @@ done-good n w h = arm-agree (spend w) (spend-agree w h)
 or-agree : (s : After Started) → Ag s → Ag (charge_or s)
 or-agree s h = picked Ag s.answer.entered (λ _. h) (λ _. done-good s.answer.taken s.world h)
 
-at_agree : (pc : OptPc) (w : World) → Agree w → Ag (charge_at pc w)
+at_agree : (pc : Option ℕ) (w : World) → Agree w → Ag (charge_at pc w)
 unfolding start_finalizer
-at_agree OptPc.None w h = done-good 0 w h
-at_agree (OptPc.Some pc) w h =
+at_agree None w h = done-good 0 w h
+at_agree (Some pc) w h =
     picked Ag w.fuel.ready
     (λ r. or-agree (start_finalizer (store_pc pc w)) (start-agree w.finalize 0 (unbank (store_pc pc w)) h.hosts (idle r) (unbank-at w.fuel.bank w.fuel refl))) (λ _. done-good 0 w h)
   where
@@ -315,7 +312,7 @@ at_agree (OptPc.Some pc) w h =
         go true e = no_true (sym r ∙ h.ready ∙ ap (λ b. not b && not (is_nil w.finalize)) e)
         go false e = let a : 0 + finals w.chain ≡ 0 = h.active ∙ ap one_if e in omega arith
 
-pub charge-agree : (pc : OptPc) (w : World) → Agree w → Ag (charge pc w)
+pub charge-agree : (pc : Option ℕ) (w : World) → Agree w → Ag (charge pc w)
 unfolding charge charge_slow
 charge-agree pc w h =
     picked Ag (eqb w.fuel.fuel 0) (λ _. picked Ag (eqb (unbank w).fuel.fuel 0) (λ _. unbank-agree w h) (λ _. at_agree pc (unbank w) (unbank-agree w h))) (λ _. spend-agree w h)

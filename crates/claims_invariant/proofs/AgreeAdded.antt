@@ -6,7 +6,9 @@ use Prim.Native.Nat.{ℕ}
 use native.Mathlib.Omega.{arith}
 use lib.Dec.{eqb}
 use Rattle.heap.specs.Word.{nil}
-use Rattle.heap.specs.declared.value.Opt.{Opt}
+use Rattle.std.specs.Prelude.{Option, Result, Some, None, Ok, Err}
+use Rattle.model.specs.declared.coro.Entered.{Entered}
+use Rattle.heap.specs.declared.fault.Fault.{Fault}
 use Rattle.model.specs.Lists.{is_nil}
 use Rattle.model.specs.State.{is_suspended}
 use Rattle.model.specs.Object.{Object, Coroutine, Absent, Is, with_finalized}
@@ -19,8 +21,6 @@ use Rattle.model.specs.Added.{answer_made, pushed_or, host_call, host_arrive, ho
 use Rattle.model.specs.Sound.{is_none}
 use Rattle.model.specs.declared.machine.Cont.{Cont}
 use Rattle.model.specs.declared.machine.Driver.{Driver}
-use Rattle.model.specs.declared.coro.WordOr.{WordOr}
-use Rattle.model.specs.declared.coro.Entered.{Entered}
 use lib.ListN.{length}
 use Rattle.model.specs.declared.machine.Frame.{Frame}
 use Rattle.claims_invariant.specs.Reachable.{Agree}
@@ -30,9 +30,9 @@ use Rattle.claims_invariant.proofs.AgreeMachine.{then-ag, push-agree}
 use Rattle.claims_invariant.proofs.AgreeExec.{answer-made}
 
 module _ (w : World) (h : Agree w) where
-  pushed-or : (u : World) (m : WordOr) → Agree u → Ag (pushed_or w u m)
-  pushed-or u (WordOr.Word base) k = k
-  pushed-or u (WordOr.Refused f) k = h
+  pushed-or : (u : World) (m : Result ℕ Fault) → Agree u → Ag (pushed_or w u m)
+  pushed-or u (Ok base) k = k
+  pushed-or u (Err f) k = h
 
   pub host-call-agree : (f : ℕ) → Ag (host_call f w)
   unfolding host_call
@@ -46,10 +46,10 @@ module _ (w : World) (h : Agree w) where
       none [] e = refl
       none (f ∷ fs) e = no_false e
 
-      go : (u : World) (e : Entered) → Agree u → Ag (host_arrive v u e)
-      go u Entered.Fresh k = k
-      go u (Entered.Suspended d) k = k
-      go u (Entered.Refused f) k = k
+      go : (u : World) (e : Result Entered Fault) → Agree u → Ag (host_arrive v u e)
+      go u (Ok Entered.Fresh) k = k
+      go u (Ok (Entered.Suspended d)) k = k
+      go u (Err f) k = k
 
   pub function-call-agree : (pc f : ℕ) (cont : Cont) → Ag (function_call pc f cont w)
   unfolding function_call
@@ -61,7 +61,7 @@ module _ (w : World) (h : Agree w) where
     where
       go : (c : Coroutine) → Ag (iterator_over c v w)
       go Absent = h
-      go (Is k r) = then-ag (alloc w.setup.costs.iter (Object.Iter v false Opt.None) w) answer_made (alloc-agree w.setup.costs.iter (Object.Iter v false Opt.None) w h) answer-made
+      go (Is k r) = then-ag (alloc w.setup.costs.iter (Object.Iter v false None) w) answer_made (alloc-agree w.setup.costs.iter (Object.Iter v false None) w h) answer-made
 
   pub hand-over-agree : (v : ℕ) → Ag (hand_over v w)
   unfolding hand_over
@@ -90,10 +90,10 @@ module _ (w : World) (h : Agree w) where
       picked Ag (grant_too_large n w) (λ _. h)
       (λ _. record { ready = same w.fuel.bank (granted n w) ∙ h.ready; bank = kept w.fuel.bank (granted n w) refl; active = h.active; hosts = h.hosts })
     where
-      same : (o : Opt) (m : ℕ) → (refuel o m w.fuel).ready ≡ w.fuel.ready
-      same Opt.None m = refl
-      same (Opt.Some b) m = refl
+      same : (o : Option ℕ) (m : ℕ) → (refuel o m w.fuel).ready ≡ w.fuel.ready
+      same None m = refl
+      same (Some b) m = refl
 
-      kept : (o : Opt) (m : ℕ) → w.fuel.bank ≡ o → (is_none (refuel o m w.fuel).bank || (refuel o m w.fuel).ready) ≡ true
-      kept Opt.None m e = h.bank
-      kept (Opt.Some b) m e = ap (λ o. is_none o || w.fuel.ready) (sym e) ∙ h.bank
+      kept : (o : Option ℕ) (m : ℕ) → w.fuel.bank ≡ o → (is_none (refuel o m w.fuel).bank || (refuel o m w.fuel).ready) ≡ true
+      kept None m e = h.bank
+      kept (Some b) m e = ap (λ o. is_none o || w.fuel.ready) (sym e) ∙ h.bank

@@ -20,7 +20,7 @@ use Rattle.model.specs.Calls.{Row, Instruction, OnFrame, OnHost, Unwinds, Grants
 use Rattle.model.specs.Step.{Out, told, doing, call, tested, step, run}
 use Rattle.model.specs.declared.machine.Charge.{Charge}
 use Rattle.model.specs.declared.exec.Step.{Step}
-use Rattle.model.specs.declared.call.OptPc.{OptPc}
+use Rattle.std.specs.Prelude.{Option, Some}
 use Rattle.model.specs.declared.call.Op.{Op}
 use Rattle.model.specs.declared.call.Answer.{Answer}
 use Rattle.claims_invariant.specs.Kept.{raises}
@@ -45,7 +45,7 @@ step-fine n Step.Frame e = refl
 step-fine n (Step.Fault f) e = picked (λ (a : Answer). answer_fine a ≡ true) (eqb (Faults.number_of f) 10) (λ _. refl) (λ _. e)
 step-fine n (Step.Unwind f) e = e
 
-charged-good : {ex : Bool} (pc : ℕ) (arm : World → After Step) (w u : World) (c : Charge) → Sound ex u → (Calm w u → Good ex Stepping (arm u)) → Charging (OptPc.Some pc) w u c → Good ex Fine (charged arm u c)
+charged-good : {ex : Bool} (pc : ℕ) (arm : World → After Step) (w u : World) (c : Charge) → Sound ex u → (Calm w u → Good ex Stepping (arm u)) → Charging (Some pc) w u c → Good ex Fine (charged arm u c)
 charged-good pc arm w u (Charge.Done n) h f q = then-good (stepped n) (f q) (λ t s k e. good k (step-fine n s e))
 charged-good pc arm w u Charge.Spent h f q = good h refl
 charged-good pc arm w u (Charge.Close n) h f q = good h refl
@@ -57,7 +57,7 @@ instruction-good {ex} pc operands arm w p h f =
     picked (Good ex Fine) (is_nil w.frames) (λ _. good h refl)
     (λ some.
     picked (Good ex Fine) (not operands) (λ _. good h refl)
-    (λ ok. then-good (charged arm) (charge-good (OptPc.Some pc) w p h) (λ u c k q. charged-good pc arm w u c k (λ l. f (not-false operands ok) some u k l) q)))
+    (λ ok. then-good (charged arm) (charge-good (Some pc) w p h) (λ u c k q. charged-good pc arm w u c k (λ l. f (not-false operands ok) some u k l) q)))
 
 -- a register that passed the gate lies in the top frame after the charge
 passed : (w u : World) (r : ℕ) → is_nil w.frames ≡ false → in_frame w r ≡ true → Calm w u → InTop u r
@@ -180,7 +180,7 @@ call-keeps {ex} o w e h = row_keeps ex o (table o) w (owes ex o e) h
 
 pub record Unwound (o : Op) : Type 0 where
   pub fault : Fault
-  pub pc : OptPc
+  pub pc : Option ℕ
   pub is : o ≡ Op.Unwind fault pc
   pub bad : raisable fault ≡ false
 
@@ -202,7 +202,7 @@ module _ (w : World) (h : Agree w) where
   instruction-agree : (pc : ℕ) (operands : Bool) (arm : World → After Step) → ((u : World) → Agree u → Ag (arm u)) → Ag (instruction pc operands arm w)
   unfolding instruction
   instruction-agree pc operands arm f =
-      picked Ag (is_nil w.frames) (λ _. h) (λ _. picked Ag (not operands) (λ _. h) (λ _. then-ag (charge (OptPc.Some pc) w) (charged arm) (charge-agree (OptPc.Some pc) w h) go))
+      picked Ag (is_nil w.frames) (λ _. h) (λ _. picked Ag (not operands) (λ _. h) (λ _. then-ag (charge (Some pc) w) (charged arm) (charge-agree (Some pc) w h) go))
     where
       go : (u : World) (c : Charge) → Agree u → Ag (charged arm u c)
       go u (Charge.Done n) k = f u k

@@ -8,7 +8,9 @@ use lib.Dec.{ltb}
 use Rattle.heap.specs.Word.{nil}
 use Rattle.heap.specs.Object.{code_of}
 use Rattle.heap.specs.declared.fault.Fault.{Fault}
-use Rattle.heap.specs.declared.value.Opt.{Opt}
+use Rattle.std.specs.Prelude.{Option, Result, Some, None, Ok, Err}
+use Rattle.model.specs.declared.coro.Entered.{Entered}
+use Rattle.model.specs.declared.coro.Event.{Event}
 use Rattle.heap.specs.declared.object.CoroState.{CoroState}
 use Rattle.model.specs.State.{is_created, is_awaiting, is_returned, is_running, is_suspended, is_finished}
 use Rattle.model.specs.Program.{is_function, hook_ok}
@@ -17,7 +19,7 @@ use Rattle.model.specs.World.{World, After, and_then}
 use Rattle.model.specs.Frames.{reg, store_pc}
 use Rattle.model.specs.Heap.{object, coro, not_a, dyn_int}
 use Rattle.model.specs.Coro.{state_as, coro_enter, finish_coroutine, in_state, ended}
-use Rattle.model.specs.Machine.{push_frame, is_ok}
+use Rattle.model.specs.Machine.{push_frame}
 use Rattle.model.specs.Exec.{fault, put, put_made, window, coro_new, coro_new_indirect, hooked, call_hook, spawn_made, spawn_with, spawn, delivered, deliver_all, suspend, largest_in, yield_key, yield_on, yield, larger_of, yield_kv_on, yield_kv, await_on}
 use Rattle.model.specs.Exec.{await, arrive, resume, throw_entered, throw_to, resume_throw, close_entered, close_in, close_to, coro_close, status_of, coro_status, current, coro_current, key_of, coro_key, result_in, coro_result, iter_on, iter_next}
 use Rattle.model.specs.Sound.{runs}
@@ -25,14 +27,7 @@ use Rattle.model.specs.declared.machine.Cont.{Cont}
 use Rattle.model.specs.declared.machine.Driver.{Driver}
 use Rattle.model.specs.declared.machine.Active.{Active}
 use Rattle.model.specs.declared.machine.Charge.{Charge}
-use Rattle.model.specs.declared.coro.WordOr.{WordOr}
-use Rattle.model.specs.declared.coro.Stated.{Stated}
-use Rattle.model.specs.declared.coro.Entered.{Entered}
-use Rattle.model.specs.declared.coro.Keys.{Keys}
-use Rattle.model.specs.declared.coro.AutoKey.{AutoKey}
-use Rattle.model.specs.declared.coro.Suspension.{Suspension}
 use Rattle.model.specs.declared.exec.Step.{Step}
-use Rattle.model.specs.declared.call.OptPc.{OptPc}
 use Rattle.claims_sound.proofs.Tests.{no_false, and_left, both, picked, negate}
 use Rattle.claims_sound.proofs.Sound.{Sound, facts}
 use Rattle.claims_sound.proofs.Tower.{tower-move, tower-stack, put-sound, store-sound}
@@ -46,7 +41,7 @@ use Rattle.claims_sound.proofs.Charge.{Charging, charge-good, close-sound, calm-
 use Rattle.claims_invariant.specs.Reachable.{Agree}
 use Rattle.claims_invariant.proofs.Unwind.{push-good}
 use Rattle.claims_invariant.proofs.Agree.{Ag}
-use Rattle.claims_sound.proofs.Good.{Good, good, then-good, fine, made_fine, entered_fine, suspension_fine, step_fine, fine-not_a, still, Calm, still-calm, InTop, calm-top, top-under}
+use Rattle.claims_sound.proofs.Good.{Good, good, then-good, fine, made_fine, passed_fine, entered_fine, suspension_fine, step_fine, fine-not_a, still, Calm, still-calm, InTop, calm-top, top-under}
 
 abbrev pub Stepping : World → Step → Type 0
 Stepping w s = step_fine s ≡ true
@@ -54,9 +49,9 @@ Stepping w s = step_fine s ≡ true
 put-good : {ex : Bool} (dst v : ℕ) (w : World) → Sound ex w → Good ex Stepping (put dst v w)
 put-good dst v w h = good (put-sound dst v w h) refl
 
-made-good : {ex : Bool} (dst : ℕ) (u : World) (m : WordOr) → Sound ex u → made_fine m ≡ true → Good ex Stepping (put_made dst u m)
-made-good dst u (WordOr.Word v) h e = put-good dst v u h
-made-good dst u (WordOr.Refused f) h e = good h e
+made-good : {ex : Bool} (dst : ℕ) (u : World) (m : Result ℕ Fault) → Sound ex u → made_fine m ≡ true → Good ex Stepping (put_made dst u m)
+made-good dst u (Ok v) h e = put-good dst v u h
+made-good dst u (Err f) h e = good h e
 
 -- ---- CoroNew, CoroNewIndirect
 
@@ -70,9 +65,9 @@ new-indirect-good dst callee argc w h = then-good (put_made dst) (indirect-good 
 
 -- ---- Spawn
 
-hooked-good : {ex : Bool} (w : World) (c : ℕ) (u : World) (m : WordOr) → Sound ex w → Sound ex u → made_fine m ≡ true → Good ex Stepping (hooked w c u m)
-hooked-good w c u (WordOr.Word base) h k e = good (tower-move u (set u.stack base c) u.frames k (tower-stack (length-set u.stack base c) k.tower)) refl
-hooked-good w c u (WordOr.Refused f) h k e = good h e
+hooked-good : {ex : Bool} (w : World) (c : ℕ) (u : World) (m : Result ℕ Fault) → Sound ex w → Sound ex u → made_fine m ≡ true → Good ex Stepping (hooked w c u m)
+hooked-good w c u (Ok base) h k e = good (tower-move u (set u.stack base c) u.frames k (tower-stack (length-set u.stack base c) k.tower)) refl
+hooked-good w c u (Err f) h k e = good h e
 
 pushed-hook : {ex : Bool} (hook pc dst c : ℕ) (w : World) → Sound ex w → ltb pc (2 ^ 32) ≡ true → is_function w.setup hook ≡ true → InTop w dst
     → Good ex Stepping (and_then (push_frame hook nil (Cont.Value dst) (store_pc pc w)) (hooked w c))
@@ -86,46 +81,47 @@ hook-good hook pc dst c w (Charge.Done n) h p e t = pushed-hook hook pc dst c w 
 hook-good hook pc dst c w Charge.Spent h p e t = good h refl
 hook-good hook pc dst c w (Charge.Close n) h p e t = pushed-hook hook pc dst c w h p e t
 
-none-calm : (w u : World) (x : Charge) → Charging OptPc.None w u x → Calm w u
+none-calm : (w u : World) (x : Charge) → Charging None w u x → Calm w u
 none-calm w u (Charge.Done n) c = c
 none-calm w u Charge.Spent c = c
 none-calm w u (Charge.Close n) c = c
 
-spawn-made : {ex : Bool} (hook pc dst : ℕ) (w : World) (m : WordOr) → Sound ex w → made_fine m ≡ true → ltb pc (2 ^ 32) ≡ true → is_function w.setup hook ≡ true → InTop w dst → Good ex Stepping (spawn_made hook pc dst w m)
-spawn-made hook pc dst w (WordOr.Word c) h f p e t =
-    then-good (call_hook hook pc dst c) (charge-good OptPc.None w refl h)
+spawn-made : {ex : Bool} (hook pc dst : ℕ) (w : World) (m : Result ℕ Fault) → Sound ex w → made_fine m ≡ true → ltb pc (2 ^ 32) ≡ true → is_function w.setup hook ≡ true → InTop w dst → Good ex Stepping (spawn_made hook pc dst w m)
+spawn-made hook pc dst w (Ok c) h f p e t =
+    then-good (call_hook hook pc dst c) (charge-good None w refl h)
     (λ u x k q. let l = none-calm w u x q in hook-good hook pc dst c u x k p (ap (λ s. is_function s hook) l.setup ∙ e) (calm-top dst l t))
-spawn-made hook pc dst w (WordOr.Refused x) h f p e t = good h f
+spawn-made hook pc dst w (Err x) h f p e t = good h f
 
 pub spawn-good : {ex : Bool} (pc dst callee argc : ℕ) (w : World) → Sound ex w → ltb pc (2 ^ 32) ≡ true → InTop w dst → Good ex Stepping (spawn pc dst callee argc w)
 unfolding spawn
 spawn-good {ex} pc dst callee argc w h p t = go w.setup.hook refl
   where
-    go : (o : Opt) → w.setup.hook ≡ o → Good ex Stepping (spawn_with o pc dst callee argc w)
-    go Opt.None e = good h refl
-    go (Opt.Some hook) e =
+    go : (o : Option ℕ) → w.setup.hook ≡ o → Good ex Stepping (spawn_with o pc dst callee argc w)
+    go None e = good h refl
+    go (Some hook) e =
         let is : is_function w.setup hook ≡ true = and_left (is_function w.setup hook) _ (subst (λ o. hook_ok w.setup o ≡ true) e (facts w.setup h.setup).hook) in
         then-good (spawn_made hook pc dst) (indirect-good dst callee argc w h)
         (λ u m k q. spawn-made hook pc dst u m k q.fine p (ap (λ s. is_function s hook) q.still.setup ∙ is) (calm-top dst (still-calm q.still) t))
 
 -- ---- Yield, YieldKv, Await
 
-delivered-good : {ex : Bool} (u : World) (f : Fault) → Sound ex u → fine f ≡ true → Good ex Stepping (delivered u f)
-delivered-good {ex} u f h e = picked (Good ex Stepping) (is_ok f) (λ _. good h refl) (λ _. good h e)
+delivered-good : {ex : Bool} (u : World) (r : Result Unit Fault) → Sound ex u → passed_fine r ≡ true → Good ex Stepping (delivered u r)
+delivered-good u (Ok x) h e = good h refl
+delivered-good u (Err f) h e = good h e
 
-deliver-all : {ex : Bool} (u : World) (s : Suspension) → Sound ex u → suspension_fine s ≡ true → Good ex Stepping (deliver_all u s)
-deliver-all u (Suspension.Done d e) h f = then-good delivered (deliver-good d e u h) (λ t x k p. delivered-good t x k p)
-deliver-all u (Suspension.Refused x) h f = good h f
+deliver-all : {ex : Bool} (u : World) (s : Result (Driver × Event) Fault) → Sound ex u → suspension_fine s ≡ true → Good ex Stepping (deliver_all u s)
+deliver-all u (Ok (d, e)) h f = then-good delivered (deliver-good d e u h) (λ t x k p. delivered-good t x k p)
+deliver-all u (Err x) h f = good h f
 
-suspend-step : {ex : Bool} (pc : ℕ) (st : CoroState) (dst payload : ℕ) (keys : Keys) (w : World) → Sound ex w → ltb pc (2 ^ 32) ≡ true → is_suspended st ≡ true → ltb dst (2 ^ 16) ≡ true → InTop w dst
+suspend-step : {ex : Bool} (pc : ℕ) (st : CoroState) (dst payload : ℕ) (keys : Option (ℕ × ℕ)) (w : World) → Sound ex w → ltb pc (2 ^ 32) ≡ true → is_suspended st ≡ true → ltb dst (2 ^ 16) ≡ true → InTop w dst
     → Good ex Stepping (suspend pc st dst payload keys w)
 suspend-step pc st dst payload keys w h p is small t =
     then-good deliver_all (suspend-good st dst payload keys (store_pc pc w) (store-sound pc w p h) is small (calm-top dst (calm-store pc w) t).inside) (λ u s k f. deliver-all u s k f)
 
 module _ {ex : Bool} (pc dst : ℕ) (w : World) (h : Sound ex w) (p : ltb pc (2 ^ 32) ≡ true) (small : ltb dst (2 ^ 16) ≡ true) (t : InTop w dst) where
-  yield-key : (payload : ℕ) (u : World) (k : AutoKey) → Sound ex u → Keyed w u k → Good ex Stepping (yield_key pc dst payload u k)
-  yield-key payload u (AutoKey.Key key n) k q = suspend-step pc CoroState.Yielded dst payload (Keys.Set key n) u k p refl small (calm-top dst (still-calm q.still) t)
-  yield-key payload u (AutoKey.Refused f) k q = good k q.fine
+  yield-key : (payload : ℕ) (u : World) (k : Result (ℕ × ℕ) Fault) → Sound ex u → Keyed w u k → Good ex Stepping (yield_key pc dst payload u k)
+  yield-key payload u (Ok (key, n)) k q = suspend-step pc CoroState.Yielded dst payload (Some (key, n)) u k p refl small (calm-top dst (still-calm q.still) t)
+  yield-key payload u (Err f) k q = good k q.fine
 
   pub yield-good : (src : ℕ) → Good ex Stepping (yield pc dst src w)
   unfolding yield
@@ -142,7 +138,7 @@ module _ {ex : Bool} (pc dst : ℕ) (w : World) (h : Sound ex w) (p : ltb pc (2 
       go : (chain : List Active) → Good ex Stepping (yield_kv_on chain pc dst src key w)
       go [] = good h refl
       go (a ∷ chain) =
-          suspend-step pc CoroState.Yielded dst (reg w src) (Keys.Set (reg w key) (larger_of (largest_in (coro w a.coro)) (dyn_int w (reg w key)))) w h p refl small t
+          suspend-step pc CoroState.Yielded dst (reg w src) (Some (reg w key, larger_of (largest_in (coro w a.coro)) (dyn_int w (reg w key)))) w h p refl small t
 
   pub await-good : (src : ℕ) → Good ex Stepping (await pc dst src w)
   unfolding await
@@ -150,27 +146,27 @@ module _ {ex : Bool} (pc dst : ℕ) (w : World) (h : Sound ex w) (p : ltb pc (2 
     where
       go : (chain : List Active) → Good ex Stepping (await_on chain pc dst src w)
       go [] = good h refl
-      go (a ∷ chain) = suspend-step pc CoroState.Awaiting dst (reg w src) Keys.Keep w h p refl small t
+      go (a ∷ chain) = suspend-step pc CoroState.Awaiting dst (reg w src) None w h p refl small t
 
 -- ---- Resume, ResumeThrow, CoroClose
 
-arrive-good : {ex : Bool} (sent : ℕ) (u : World) (e : Entered) → Sound ex u → entered_fine e ≡ true → Good ex Stepping (arrive sent u e)
-arrive-good sent u Entered.Fresh h f = good h refl
-arrive-good sent u (Entered.Suspended d) h f = good (send-sound d sent u h) refl
-arrive-good sent u (Entered.Refused x) h f = good h f
+arrive-good : {ex : Bool} (sent : ℕ) (u : World) (e : Result Entered Fault) → Sound ex u → entered_fine e ≡ true → Good ex Stepping (arrive sent u e)
+arrive-good sent u (Ok Entered.Fresh) h f = good h refl
+arrive-good sent u (Ok (Entered.Suspended d)) h f = good (send-sound d sent u h) refl
+arrive-good sent u (Err x) h f = good h f
 
-thrown-good : {ex : Bool} (v : ℕ) (u : World) (e : Entered) → Sound ex u → entered_fine e ≡ true → Good ex Stepping (throw_entered v u e)
-thrown-good v u Entered.Fresh h f = good h refl
-thrown-good v u (Entered.Suspended d) h f = good h refl
-thrown-good v u (Entered.Refused x) h f = good h f
+thrown-good : {ex : Bool} (v : ℕ) (u : World) (e : Result Entered Fault) → Sound ex u → entered_fine e ≡ true → Good ex Stepping (throw_entered v u e)
+thrown-good v u (Ok Entered.Fresh) h f = good h refl
+thrown-good v u (Ok (Entered.Suspended d)) h f = good h refl
+thrown-good v u (Err x) h f = good h f
 
-closing-good : {ex : Bool} (c signal : ℕ) (u : World) (e : Entered) → Sound ex u → entered_fine e ≡ true → Good ex Stepping (close_entered c signal u e)
-closing-good c signal u Entered.Fresh h f = good (close-sound signal c u h) refl
-closing-good c signal u (Entered.Suspended d) h f = good (close-sound signal c u h) refl
-closing-good c signal u (Entered.Refused x) h f = good h f
+closing-good : {ex : Bool} (c signal : ℕ) (u : World) (e : Result Entered Fault) → Sound ex u → entered_fine e ≡ true → Good ex Stepping (close_entered c signal u e)
+closing-good c signal u (Ok Entered.Fresh) h f = good (close-sound signal c u h) refl
+closing-good c signal u (Ok (Entered.Suspended d)) h f = good (close-sound signal c u h) refl
+closing-good c signal u (Err x) h f = good h f
 
 -- what the state of a word says
-stated : (c : Coroutine) (f : Fault) (P : Stated → Type 0) → (fine f ≡ true → P (Stated.Refused f)) → fine f ≡ true → ((k : Core) (r : Rest) → c ≡ Is k r → P (Stated.In k.state)) → P (state_as c f)
+stated : (c : Coroutine) (f : Fault) (P : Result CoroState Fault → Type 0) → (fine f ≡ true → P (Err f)) → fine f ≡ true → ((k : Core) (r : Rest) → c ≡ Is k r → P (Ok k.state)) → P (state_as c f)
 stated Absent f P a e b = a e
 stated (Is k r) f P a e b = b k r refl
 
@@ -205,7 +201,7 @@ module _ {ex : Bool} (pc dst : ℕ) (w : World) (h : Sound ex w) (p : ltb pc (2 
   close-in : (c signal : ℕ) → Good ex Stepping (close_in pc dst c signal w)
   close-in c signal = then-good (close_entered c signal) (resumes c) (λ u x s f. closing-good c signal u x s f)
 
-  close-to : (c signal : ℕ) (k : Core) (r : Rest) → coro w c ≡ Is k r → (st : CoroState) → k.state ≡ st → Good ex Stepping (close_to (Stated.In st) pc dst c signal w)
+  close-to : (c signal : ℕ) (k : Core) (r : Rest) → coro w c ≡ Is k r → (st : CoroState) → k.state ≡ st → Good ex Stepping (close_to (Ok st) pc dst c signal w)
   close-to c signal k r e CoroState.Created q = put-good dst nil _ (idle-end c CoroState.Returned nil k r e (ap is_running q) refl)
   close-to c signal k r e CoroState.Running q = good h refl
   close-to c signal k r e CoroState.Yielded q = close-in c signal

@@ -15,7 +15,7 @@ use Rattle.model.specs.Answer.{number_of}
 use Rattle.model.specs.Call.{Operation, Call, SetUp, Do}
 use Rattle.model.specs.Calls.{Row, Instruction, OnFrame, OnHost, Unwinds, Grants, Looks, Other, table}
 use Rattle.model.specs.Step.{Out, told, doing, call, tested, step, run}
-use Rattle.model.specs.declared.call.OptPc.{OptPc}
+use Rattle.std.specs.Prelude.{Option, ℕ}
 use Rattle.model.specs.declared.call.Op.{Op}
 use Rattle.model.specs.declared.call.Answer.{Answer}
 use Rattle.claims_invariant.specs.Kept.{raises, well_put, run_untested, SoundnessKept}
@@ -62,7 +62,7 @@ eleven w (Do o) h n = go (raises (table o.op)) refl
         no_true (sym m ∙ unnegate (eqb (number_of (call o.op w).answer) 11) f)
     go false q = refl
 
-unraisable : (f : Fault) (pc : OptPc) (w : World) → raisable f ≡ false → (unwind f pc w).answer ≡ Answer.Refused Fault.Unsound
+unraisable : (f : Fault) (pc : Option ℕ) (w : World) → raisable f ≡ false → (unwind f pc w).answer ≡ Answer.Refused Fault.Unsound
 unfolding unwind
 unraisable f pc w e = ap (λ b. (pick b (unwind_fault f (store_some pc w)) (Rattle.model.specs.World.after w (Answer.Refused Fault.Unsound))).answer) e ∙ ap (λ (x : After Answer). x.answer) (pick-false _ _)
 

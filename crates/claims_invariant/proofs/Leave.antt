@@ -21,7 +21,7 @@ use Rattle.model.specs.Coro.{saved, sized, growth, set_keys, unclose, suspend_co
 use Rattle.model.specs.Gate.{in_frame}
 use Rattle.model.specs.Sound.{row_words, body_last, frames_over, waits, runs}
 use Rattle.model.specs.declared.machine.Active.{Active}
-use Rattle.model.specs.declared.coro.Keys.{Keys}
+use Rattle.std.specs.Prelude.{Option, Some, None}
 use Rattle.claims_sound.proofs.Tests.{and_left, and_right, both, or_left, or_right, picked, negate}
 use Rattle.claims_sound.proofs.Stand.{Stands, Lifts, last_of, over-of, widths-saved}
 use Rattle.claims_sound.proofs.States.{suspended-idle, suspended-held, suspended-old, suspended-resumable, running-held}
@@ -36,16 +36,16 @@ use Rattle.claims_sound.proofs.Good.{Good, good, suspension_fine}
 -- ---- coro_suspend
 
 -- what a suspension writes beside the saved words and frames
-keys-same : (key : Keys) (r : Rest) → SameRest r (set_keys key r)
-keys-same Keys.Keep r = record { row = refl; maxregs = refl; maxframes = refl; task = λ z. z; finalized = λ z. z }
-keys-same (Keys.Set k n) r = record { row = refl; maxregs = refl; maxframes = refl; task = λ z. z; finalized = λ z. z }
+keys-same : (key : Option (ℕ × ℕ)) (r : Rest) → SameRest r (set_keys key r)
+keys-same None r = record { row = refl; maxregs = refl; maxframes = refl; task = λ z. z; finalized = λ z. z }
+keys-same (Some (k, n)) r = record { row = refl; maxregs = refl; maxframes = refl; task = λ z. z; finalized = λ z. z }
 
 unclose-same : (st : CoroState) (r r' : Rest) → SameRest r r' → SameRest r (unclose st r')
 unclose-same st r r' q =
     picked (SameRest r) (not (is_awaiting st) && r'.closing)
     (λ _. record { row = q.row; maxregs = q.maxregs; maxframes = q.maxframes; task = q.task; finalized = q.finalized }) (λ _. q)
 
-suspended-rest : (k : Core) (payload : ℕ) (key : Keys) (r : Rest) → SameRest (sized k r) (unclose k.state (set_keys key (with_payload payload (sized k r))))
+suspended-rest : (k : Core) (payload : ℕ) (key : Option (ℕ × ℕ)) (r : Rest) → SameRest (sized k r) (unclose k.state (set_keys key (with_payload payload (sized k r))))
 suspended-rest k payload key r =
     let q = keys-same key (with_payload payload (sized k r)) in
     unclose-same k.state (sized k r) (set_keys key (with_payload payload (sized k r)))
@@ -71,7 +71,7 @@ sized-ok s k₀ r k h a b st l wait small =
       wide = λ z. both (widths-saved s l z) (or_left (not (is_created k.state)) _ (negate (suspended-old k.state st)));
     }
 
-module _ {ex : Bool} (st : CoroState) (dst payload : ℕ) (key : Keys) (w : World) (h : Sound ex w) (is : is_suspended st ≡ true) (small : ltb dst (2 ^ 16) ≡ true) (inside : in_frame w dst ≡ true) where
+module _ {ex : Bool} (st : CoroState) (dst payload : ℕ) (key : Option (ℕ × ℕ)) (w : World) (h : Sound ex w) (is : is_suspended st ≡ true) (small : ltb dst (2 ^ 16) ≡ true) (inside : in_frame w dst ≡ true) where
   module _ (a : Active) (chain : List Active) (q : w.chain ≡ a ∷ chain) where
     sliced : Cut ex w.setup (length w.stack) w.frames a chain
     sliced = cut w.setup (subst (Stands ex w.setup (length w.stack) w.frames) q h.tower.stands)

@@ -9,22 +9,19 @@ use lib.Dec.{eqb, ltb, leb}
 use borrow.Author.Tests.{ltb-false, leb-true, leb-false, ne_eqb}
 use Rattle.heap.specs.Fault as Faults
 use Rattle.heap.specs.declared.fault.Fault.{Fault}
-use Rattle.heap.specs.declared.value.Opt.{Opt}
+use Rattle.std.specs.Prelude.{Option, Result, Some, None, Err}
 use Rattle.model.specs.Lists.{is_nil, each}
 use Rattle.model.specs.Program.{func, is_function, first_of, between, handler_ok}
 use Rattle.model.specs.World.{World, After, and_then}
 use Rattle.model.specs.Frames.{is_entry, is_coro, frame, top_func, top_pc, pop_to}
-use Rattle.model.specs.Machine.{push_frame, result_of, or_nil, write_result, write_made, apply_cont, is_ok, resume_in, return_made, finish_as, finish_on, finish, caught, stop_or, escape, search_as, search, search_frames, search_made, unwind_fault, store_some, raisable, unwind}
+use Rattle.model.specs.Machine.{push_frame, result_of, or_nil, write_result, write_made, apply_cont, resume_in, return_made, finish_as, finish_on, finish, caught, stop_or, escape, search_as, search, search_frames, search_made, unwind_fault, store_some, raisable, unwind}
 use Rattle.model.specs.Call.{opt_pc}
 use Rattle.model.specs.Sound.{cont_lies, frame_names}
 use Rattle.model.specs.declared.program.Handler.{Handler}
-use Rattle.model.specs.declared.program.Caught.{Caught}
 use Rattle.model.specs.declared.machine.Cont.{Cont}
 use Rattle.model.specs.declared.machine.Frame.{Frame}
 use Rattle.model.specs.declared.machine.Charge.{Charge}
-use Rattle.model.specs.declared.coro.WordOr.{WordOr}
 use Rattle.heap.specs.declared.heap.ResultKind.{ResultKind}
-use Rattle.model.specs.declared.call.OptPc.{OptPc}
 use Rattle.model.specs.declared.call.Answer.{Answer}
 use Rattle.claims_sound.specs.Exact.{rooted}
 use Rattle.claims_sound.proofs.Tests.{no_true, and_left, and_right, both, negate, or-first, or-second, or_else, picked}
@@ -35,7 +32,7 @@ use Rattle.claims_sound.proofs.Make.{dyn-good}
 use Rattle.claims_sound.proofs.End.{returned-sound, escaped-good}
 use Rattle.claims_sound.proofs.Charge.{charge-good}
 use Rattle.claims_sound.proofs.Raised.{first-in, func-small, pc-small, error-good, some-sound}
-use Rattle.claims_sound.proofs.Good.{Good, good, then-good, fine, made_fine, answer_fine}
+use Rattle.claims_sound.proofs.Good.{Good, good, then-good, fine, made_fine, passed_fine, answer_fine}
 
 -- ---- push_frame
 
@@ -59,16 +56,16 @@ push-good {ex} f closure cont w h e q i l rt =
 abbrev pub Fine : World → Answer → Type 0
 Fine w a = answer_fine a ≡ true
 
-abbrev Ok : World → Fault → Type 0
-Ok w f = fine f ≡ true
+abbrev Ok : World → Result Unit Fault → Type 0
+Ok w r = passed_fine r ≡ true
 
-write-sound : {ex : Bool} (dst : ℕ) (v : Opt) (w : World) → Sound ex w → Sound ex (write_result dst v w)
-write-sound dst Opt.None w h = h
-write-sound dst (Opt.Some v) w h = put-sound dst v w h
+write-sound : {ex : Bool} (dst : ℕ) (v : Option ℕ) (w : World) → Sound ex w → Sound ex (write_result dst v w)
+write-sound dst None w h = h
+write-sound dst (Some v) w h = put-sound dst v w h
 
-write-good : {ex : Bool} (dst : ℕ) (u : World) (m : WordOr) → Sound ex u → made_fine m ≡ true → Good ex Ok (write_made dst u m)
-write-good dst u (WordOr.Word v) h e = good (put-sound dst v u h) refl
-write-good dst u (WordOr.Refused f) h e = good h e
+write-good : {ex : Bool} (dst : ℕ) (u : World) (m : Result ℕ Fault) → Sound ex u → made_fine m ≡ true → Good ex Ok (write_made dst u m)
+write-good dst u (Result.Ok v) h e = good (put-sound dst v u h) refl
+write-good dst u (Err f) h e = good h e
 
 apply-good : {ex : Bool} (c : Cont) (kind : ResultKind) (v : ℕ) (w : World) → Sound ex w → Good ex Ok (apply_cont c kind v w)
 unfolding apply_cont
@@ -79,12 +76,13 @@ apply-good (Cont.Value dst) kind v w h = good (put-sound dst (or_nil (result_of 
 apply-good Cont.Discard kind v w h = good h refl
 apply-good Cont.Coro kind v w h = good h refl
 
-resume-good : {ex : Bool} (u : World) (f : Fault) → Sound ex u → fine f ≡ true → Good ex Fine (resume_in u f)
-resume-good {ex} u f h e = picked (Good ex Fine) (is_ok f) (λ _. good (next-sound u h) refl) (λ _. good h e)
+resume-good : {ex : Bool} (u : World) (r : Result Unit Fault) → Sound ex u → passed_fine r ≡ true → Good ex Fine (resume_in u r)
+resume-good u (Result.Ok x) h e = good (next-sound u h) refl
+resume-good u (Err f) h e = good h e
 
-return-made : {ex : Bool} (f : Frame) (fs : List Frame) (u : World) (m : WordOr) → Sound ex u → u.frames ≡ f ∷ fs → is_coro f.cont ≡ true → made_fine m ≡ true → Good ex Fine (return_made f fs u m)
-return-made f fs u (WordOr.Word v) h e c p = good (returned-sound u f fs h e c v) refl
-return-made f fs u (WordOr.Refused x) h e c p = good h p
+return-made : {ex : Bool} (f : Frame) (fs : List Frame) (u : World) (m : Result ℕ Fault) → Sound ex u → u.frames ≡ f ∷ fs → is_coro f.cont ≡ true → made_fine m ≡ true → Good ex Fine (return_made f fs u m)
+return-made f fs u (Result.Ok v) h e c p = good (returned-sound u f fs h e c v) refl
+return-made f fs u (Err x) h e c p = good h p
 
 finish-on : {ex : Bool} (kind : ResultKind) (v : ℕ) (w : World) → Sound ex w → (fs : List Frame) → w.frames ≡ fs → Good ex Fine (finish_on fs kind v w)
 finish-on kind v w h [] e = good h refl
@@ -130,25 +128,25 @@ module _ (value fn pc : ℕ) (a : ltb fn (2 ^ 32) ≡ true) (b : ltb pc (2 ^ 32)
   search-good [] w h e = good h refl
   search-good {ex} (x ∷ xs) w h e = go (first_of x.pc (func w.setup x.func).handlers) refl (λ u k q. search-good xs u k q)
     where
-      go : (c : Caught) → first_of x.pc (func w.setup x.func).handlers ≡ c → ((u : World) → Sound ex u → u.frames ≡ xs → Good ex Fine (search xs value fn pc u))
+      go : (c : Option Handler) → first_of x.pc (func w.setup x.func).handlers ≡ c → ((u : World) → Sound ex u → u.frames ≡ xs → Good ex Fine (search xs value fn pc u))
           → Good ex Fine (search_as c x xs value fn pc (search xs value fn pc) w)
-      go Caught.Nothing q ih = escape-good x xs w h e ih x.cont refl
-      go (Caught.By y) q ih =
+      go None q ih = escape-good x xs w h e ih x.cont refl
+      go (Some y) q ih =
           let s = w.setup in
           let names : each (frame_names s) (x ∷ xs) ≡ true = subst (λ fs. each (frame_names s) fs ≡ true) e (names_of s h.tower.stands) in
           let is : is_function s x.func ≡ true = and_left (is_function s x.func) _ (and_left (frame_names s x) (each (frame_names s) xs) names) in
           let ok : handler_ok (func s x.func).regs y ≡ true =
           first-in (handler_ok (func s x.func).regs) x.pc (func s x.func).handlers y (handlers-ok s x.func (facts s h.setup) is) q in
           let t : ltb y.target (2 ^ 32) ≡ true = and_right (ltb y.catch (func s x.func).regs && ltb y.start (2 ^ 32) && ltb y.end (2 ^ 32)) (ltb y.target (2 ^ 32)) ok in
-          then-good (caught y value) (charge-good OptPc.None w refl h) (λ u c k p. caught-good y value u c t k)
+          then-good (caught y value) (charge-good None w refl h) (λ u c k p. caught-good y value u c t k)
 
 module _ {ex : Bool} (w : World) (h : Sound ex w) where
   frames-good : (value : ℕ) → Good ex Fine (search_frames value w)
   frames-good value = search-good value (top_func w.frames) (top_pc w.frames) (func-small w h) (pc-small w h) w.frames w h refl
 
-made-good : {ex : Bool} (u : World) (m : WordOr) → Sound ex u → made_fine m ≡ true → Good ex Fine (search_made u m)
-made-good u (WordOr.Word v) h e = frames-good u h v
-made-good u (WordOr.Refused f) h e = good h e
+made-good : {ex : Bool} (u : World) (m : Result ℕ Fault) → Sound ex u → made_fine m ≡ true → Good ex Fine (search_made u m)
+made-good u (Result.Ok v) h e = frames-good u h v
+made-good u (Err f) h e = good h e
 
 fault-good : {ex : Bool} (f : Fault) (w : World) → Sound ex w → (between 1 10 (Faults.number_of f) || eqb (Faults.number_of f) 17) ≡ true → Good ex Fine (unwind_fault f w)
 fault-good {ex} f w h range =
@@ -162,7 +160,7 @@ fault-good {ex} f w h range =
     then-good search_made (error-good f w h from) (λ u m k p. made-good u m k p.fine))
     (λ _. good h (negate (ne_eqb n 11 (λ z. let t = leb-true n 10 (and_right (leb 1 n) (leb n 10) low) in omega arith)))))
 
-pub unwind-good : {ex : Bool} (f : Fault) (pc : OptPc) (w : World) → opt_pc pc ≡ true → Sound ex w → Good ex (λ _ a. raisable f ≡ true → answer_fine a ≡ true) (unwind f pc w)
+pub unwind-good : {ex : Bool} (f : Fault) (pc : Option ℕ) (w : World) → opt_pc pc ≡ true → Sound ex w → Good ex (λ _ a. raisable f ≡ true → answer_fine a ≡ true) (unwind f pc w)
 unfolding unwind
 unwind-good {ex} f pc w e h =
     picked (Good ex (λ _ a. raisable f ≡ true → answer_fine a ≡ true)) (raisable f)

@@ -17,7 +17,8 @@ use Rattle.model.specs.declared.call.Op.{Op}
 use Rattle.model.specs.declared.call.Answer.{Answer}
 use Rattle.claims_sound.proofs.Tests.{and_left, and_right}
 use Rattle.memory_calls.specs.Answer.{answer_words}
-use Rattle.memory_calls.specs.declared.call.Read.{Read}
+use Rattle.std.specs.Prelude.{Result, Ok}
+use Rattle.memory_calls.specs.declared.call.Gate.{Gate}
 use Rattle.machine_added.specs.Look.{end_on}
 use Rattle.memory_step.specs.Step.{decoded, set_up_ok, Do, memory_step}
 use Rattle.outer_run.specs.Run.{Ran, run_words, count_of, calls_in, written, refusals}
@@ -28,33 +29,33 @@ use Rattle.claims_linked.specs.Library.{HasRoom, NoRoom, Untested}
 
 -- ---- a call
 
-pub kept : (h : Host) (r : Read) (xs : List ℕ) → passes_test h ≡ true → 8 ≤ length xs → kept_in h r xs ≡ call_in h r xs
+pub kept : (h : Host) (r : Result Op Gate) (xs : List ℕ) → passes_test h ≡ true → 8 ≤ length xs → kept_in h r xs ≡ call_in h r xs
 kept h r xs e w = Hosts.called h r xs (kept_in h r xs) w true (sym e) (done h r xs (kept_in h r xs) true refl refl)
 
 pub told : (h : Host) (o : Operation) (xs : List ℕ) → passes_test h ≡ true → 8 ≤ length xs
-    → let a = (memory_step (state_of h) (Do o)).answer in ((call_in h (Read.Is o.op) xs).answer ≡ splice xs 0 (answer_words a)) × ((call_in h (Read.Is o.op) xs).number ≡ number_of a)
-told h o xs e w = let p = sym (kept h (Read.Is o.op) xs e w) in (ap (λ (g : Gave). g.answer) p, ap (λ (g : Gave). g.number) p)
+    → let a = (memory_step (state_of h) (Do o)).answer in ((call_in h (Ok o.op) xs).answer ≡ splice xs 0 (answer_words a)) × ((call_in h (Ok o.op) xs).number ≡ number_of a)
+told h o xs e w = let p = sym (kept h (Ok o.op) xs e w) in (ap (λ (g : Gave). g.answer) p, ap (λ (g : Gave). g.number) p)
 
 -- by room for the answer, and by the test
-abbrev pub by : Host → Read → List ℕ → Bool → Bool → Gave
+abbrev pub by : Host → Result Op Gate → List ℕ → Bool → Bool → Gave
 by h r xs room ok = pick room (pick ok (kept_in h r xs) (tells h (Answer.Refused Fault.Unsound) xs)) (gave h xs (short ok))
 
-pub call-is : (h : Host) (r : Read) (xs : List ℕ) → call_in h r xs ≡ by h r xs (leb 8 (length xs)) (passes_test h)
+pub call-is : (h : Host) (r : Result Op Gate) (xs : List ℕ) → call_in h r xs ≡ by h r xs (leb 8 (length xs)) (passes_test h)
 unfolding call_in
 call-is h r xs = refl
 
-no_answer : (h : Host) (r : Read) (xs : List ℕ) → length xs < 8 → call_in h r xs ≡ gave h xs (short (passes_test h))
+no_answer : (h : Host) (r : Result Op Gate) (xs : List ℕ) → length xs < 8 → call_in h r xs ≡ gave h xs (short (passes_test h))
 no_answer h r xs w = call-is h r xs ∙ ap (λ b. by h r xs b (passes_test h)) (lt-leb 8 (length xs) w) ∙ pick-false _ _
 
-by-none : (h : Host) (r : Read) (xs : List ℕ) → by h r xs true false ≡ tells h (Answer.Refused Fault.Unsound) xs
+by-none : (h : Host) (r : Result Op Gate) (xs : List ℕ) → by h r xs true false ≡ tells h (Answer.Refused Fault.Unsound) xs
 unfolding pick
 by-none h r xs = refl
 
-pub not-passed : (h : Host) (r : Read) (xs : List ℕ) → passes_test h ≡ false → 8 ≤ length xs → call_in h r xs ≡ tells h (Answer.Refused Fault.Unsound) xs
+pub not-passed : (h : Host) (r : Result Op Gate) (xs : List ℕ) → passes_test h ≡ false → 8 ≤ length xs → call_in h r xs ≡ tells h (Answer.Refused Fault.Unsound) xs
 not-passed h r xs e w = call-is h r xs ∙ ap₂ (by h r xs) (le-leb 8 (length xs) w) e ∙ by-none h r xs
 
 -- a grant, by what the call gives
-grant-gave : (h : Host) (n : ℕ) (xs fs' xs' : List ℕ) (r : ℕ) (g : Gave) → call_in h (Read.Is (Op.Grant n)) xs ≡ g → Granted h n xs fs' xs' r → (fs' ≡ g.host.fuel) × (xs' ≡ g.answer) × (r ≡ g.number)
+grant-gave : (h : Host) (n : ℕ) (xs fs' xs' : List ℕ) (r : ℕ) (g : Gave) → call_in h (Ok (Op.Grant n)) xs ≡ g → Granted h n xs fs' xs' r → (fs' ≡ g.host.fuel) × (xs' ≡ g.answer) × (r ≡ g.number)
 grant-gave h n xs fs' xs' r g p k =
     (k.fuel ∙ ap (λ (x : Gave). x.host.fuel) p, k.answer ∙ ap (λ (x : Gave). x.answer) p, k.number ∙ ap (λ (x : Gave). x.number) p)
 
@@ -182,7 +183,7 @@ no_room h xs =
       run = λ cs w. no-answers h cs xs w;
       look = λ w. no-places h xs w;
       set-up = λ given w. begun-none h given xs w;
-      grant = λ n fs' xs' r w k. grant-gave h n xs fs' xs' r (gave h xs (short (passes_test h))) (no_answer h (Read.Is (Op.Grant n)) xs w) k;
+      grant = λ n fs' xs' r w k. grant-gave h n xs fs' xs' r (gave h xs (short (passes_test h))) (no_answer h (Ok (Op.Grant n)) xs w) k;
     }
 
 pub untested : (h : Host) (xs : List ℕ) → passes_test h ≡ false → Untested h xs
@@ -191,5 +192,5 @@ untested h xs e =
       call = λ r w. not-passed h r xs e w;
       run = λ cs w. refused_all h cs xs e w;
       look = λ w. unseen h xs e w;
-      grant = λ n fs' xs' r w k. grant-gave h n xs fs' xs' r (tells h (Answer.Refused Fault.Unsound) xs) (not-passed h (Read.Is (Op.Grant n)) xs e w) k;
+      grant = λ n fs' xs' r w k. grant-gave h n xs fs' xs' r (tells h (Answer.Refused Fault.Unsound) xs) (not-passed h (Ok (Op.Grant n)) xs e w) k;
     }

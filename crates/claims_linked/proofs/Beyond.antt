@@ -8,10 +8,11 @@ use lib.Seq.{drop-drop}
 use lib.Dec.{leb}
 use Rattle.lists.specs.Parts.{splice}
 use Rattle.lists.specs.Pick.{pick}
-use Rattle.heap.specs.declared.value.Opt.{Opt}
+use Rattle.std.specs.Prelude.{Option, Result, Some, None}
+use Rattle.memory_calls.specs.declared.call.Gate.{Gate}
+use Rattle.model.specs.declared.call.Op.{Op}
 use Rattle.model.specs.declared.machine.Fuel.{Fuel}
 use Rattle.memory_world.specs.declared.machine.Machine.{Machine}
-use Rattle.memory_calls.specs.declared.call.Read.{Read}
 use Rattle.memory_step.specs.Step.{MemoryState, set_up_ok, set_up_words}
 use Rattle.outer_run.specs.Run.{do_words}
 use Rattle.linked_calls.specs.Words.{machine_words, fuel_words}
@@ -22,9 +23,9 @@ use Rattle.claims_linked.proofs.Answered.{by, call-is, begun-by, set-up-is, all,
 numbers-rest : (ms : List ℕ) (m : Machine) → drop 25 (splice ms 0 (machine_words m)) ≡ drop 25 ms
 numbers-rest ms m = drop-drop 12 13 ms
 
-fuel-as : (fs : List ℕ) (n : ℕ) (b : Opt) (r : Bool) → drop 4 (splice fs 0 (fuel_words (record { fuel = n; bank = b; ready = r }))) ≡ drop 4 fs
-fuel-as fs n Opt.None r = refl
-fuel-as fs n (Opt.Some a) r = refl
+fuel-as : (fs : List ℕ) (n : ℕ) (b : Option ℕ) (r : Bool) → drop 4 (splice fs 0 (fuel_words (record { fuel = n; bank = b; ready = r }))) ≡ drop 4 fs
+fuel-as fs n None r = refl
+fuel-as fs n (Some a) r = refl
 
 fuel-rest : (fs : List ℕ) (f : Fuel) → drop 4 (splice fs 0 (fuel_words f)) ≡ drop 4 fs
 fuel-rest fs f = fuel-as fs f.fuel f.bank f.ready
@@ -35,7 +36,7 @@ over-rest h s = record { machine = numbers-rest h.machine s.machine; fuel = fuel
 same : (h : Host) → Beyond h h
 same h = record { machine = refl; fuel = refl }
 
-called-rest : (h : Host) (r : Read) (xs : List ℕ) (room ok : Bool) → Beyond h (by h r xs room ok).host
+called-rest : (h : Host) (r : Result Op Gate) (xs : List ℕ) (room ok : Bool) → Beyond h (by h r xs room ok).host
 unfolding pick
 called-rest h r xs false ok = same h
 called-rest h r xs true false = same h
@@ -57,7 +58,7 @@ begun-rest h given xs true false ok = same h
 begun-rest h given xs true true false = same h
 begun-rest h given xs true true true = fresh-rest h given
 
-pub beyond : (h : Host) (r : Read) (ws xs : List ℕ) → Beyond h (call_in h r xs).host × Beyond h (run_host h ws xs).host × Beyond h (set_up_in h ws xs).host
+pub beyond : (h : Host) (r : Result Op Gate) (ws xs : List ℕ) → Beyond h (call_in h r xs).host × Beyond h (run_host h ws xs).host × Beyond h (set_up_in h ws xs).host
 beyond h r ws xs =
     let at : (g k : Gave) → g ≡ k → Beyond h k.host → Beyond h g.host = λ g k p b. subst (λ (x : Gave). Beyond h x.host) (sym p) b in (
       at (call_in h r xs) _ (call-is h r xs) (called-rest h r xs (leb 8 (length xs)) (passes_test h)),

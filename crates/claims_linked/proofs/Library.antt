@@ -31,7 +31,7 @@ use Rattle.memory_world.specs.Words.{sizes_of, lengths_of}
 use Rattle.memory_world.specs.Decode.{setup_of}
 use Rattle.memory_calls.specs.Call.{refusal, op_of, op_words}
 use Rattle.memory_calls.specs.declared.call.Gate.{Gate}
-use Rattle.memory_calls.specs.declared.call.Read.{Read}
+use Rattle.std.specs.Prelude.{Result, Ok, Err}
 use Rattle.memory_calls.proofs.Back.{read_back}
 use Rattle.memory_calls.proofs.Typed.{read-typed}
 use Rattle.claims_model.specs.Engine as Engine
@@ -105,9 +105,9 @@ stays-set-up s o e =
 pub call_stays : (s : MemoryState) (o : Operation) → is_sound s ≡ true → Stays s (step_words s o.op).state
 call_stays s o e = record { sound = words-kept.kept s o e; setup = stays-set-up s o e }
 
-read_stays : (s : MemoryState) (ws : List ℕ) (r : Read) → each is_word ws ≡ true → op_of ws ≡ r → is_sound s ≡ true → Stays s (do_words s r).state
-read_stays s ws (Read.Is o) w q e = call_stays s (record { op = o; within = read-typed ws o w q }) e
-read_stays s ws (Read.Not g) w q e = record { sound = e; setup = refl }
+read_stays : (s : MemoryState) (ws : List ℕ) (r : Result Op Gate) → each is_word ws ≡ true → op_of ws ≡ r → is_sound s ≡ true → Stays s (do_words s r).state
+read_stays s ws (Ok o) w q e = call_stays s (record { op = o; within = read-typed ws o w q }) e
+read_stays s ws (Err g) w q e = record { sound = e; setup = refl }
 
 called-by : (h : Host) (ws xs : List ℕ) → each is_word ws ≡ true → passes_test h ≡ true → (room : Bool) → passes_test (by h (op_of ws) xs room true).host ≡ true
 unfolding pick
@@ -118,17 +118,17 @@ called : (h : Host) (ws xs : List ℕ) → each is_word ws ≡ true → passes_t
 called h ws xs w e =
     ap (λ (g : Gave). passes_test g.host) (call-is h (op_of ws) xs ∙ ap (by h (op_of ws) xs (leb 8 (length xs))) e) ∙ called-by h ws xs w e (leb 8 (length xs))
 
-calls : (h : Host) (o : Operation) (xs : List ℕ) → passes_test h ≡ true → 8 ≤ length xs → state_of (call_in h (Read.Is o.op) xs).host ≡ (memory_step (state_of h) (Do o)).state
+calls : (h : Host) (o : Operation) (xs : List ℕ) → passes_test h ≡ true → 8 ≤ length xs → state_of (call_in h (Ok o.op) xs).host ≡ (memory_step (state_of h) (Do o)).state
 calls h o xs e w =
-    ap (λ (g : Gave). state_of g.host) (sym (kept h (Read.Is o.op) xs e w)) ∙ over-back h (step_words (state_of h) o.op).state
+    ap (λ (g : Gave). state_of g.host) (sym (kept h (Ok o.op) xs e w)) ∙ over-back h (step_words (state_of h) o.op).state
 
-unchanged-by : (h : Host) (ws xs : List ℕ) (r : Read) → each is_word ws ≡ true → op_of ws ≡ r → (room ok : Bool) → passes_test h ≡ ok
+unchanged-by : (h : Host) (ws xs : List ℕ) (r : Result Op Gate) → each is_word ws ≡ true → op_of ws ≡ r → (room ok : Bool) → passes_test h ≡ ok
     → among (by h r xs room ok).number unchanging ≡ true → (by h r xs room ok).host ≡ h
 unfolding pick
 unchanged-by h ws xs r w q false ok e n = refl
 unchanged-by h ws xs r w q true false e n = refl
-unchanged-by h ws xs (Read.Not g) w q true true e n = over-same h (numbers h e)
-unchanged-by h ws xs (Read.Is o) w q true true e n =
+unchanged-by h ws xs (Err g) w q true true e n = over-same h (numbers h e)
+unchanged-by h ws xs (Ok o) w q true true e n =
     ap (overwritten h) (sentences.unchanged (state_of h) (Do (record { op = o; within = read-typed ws o w q })) n) ∙ over-same h (numbers h e)
 
 unchanged : (h : Host) (ws xs : List ℕ) → each is_word ws ≡ true → among (call_in h (op_of ws) xs).number unchanging ≡ true → (call_in h (op_of ws) xs).host ≡ h
@@ -137,18 +137,18 @@ unchanged h ws xs w n =
     ap (λ (g : Gave). g.host) p
     ∙ unchanged-by h ws xs (op_of ws) w refl (leb 8 (length xs)) (passes_test h) refl (sym (ap (λ (g : Gave). among g.number unchanging) p) ∙ n)
 
-no_call : (h : Host) (ws xs : List ℕ) (g : Gate) → passes_test h ≡ true → 8 ≤ length xs → op_of ws ≡ Read.Not g
+no_call : (h : Host) (ws xs : List ℕ) (g : Gate) → passes_test h ≡ true → 8 ≤ length xs → op_of ws ≡ Err g
     → call_in h (op_of ws) xs ≡ tells h (Answer.Refused (refusal g (is_nil (decoded (state_of h)).frames))) xs
 no_call h ws xs g e w q =
     let p = over-same h (numbers h e) in
     let f = refusal g (is_nil (decoded (state_of h)).frames) in
     let k : pick (is_sound (state_of h)) f Fault.Unsound ≡ f = ap (λ b. pick b f Fault.Unsound) (sound h e) ∙ pick_true f Fault.Unsound in
-    ap (λ (r : Read). call_in h r xs) q ∙ sym (kept h (Read.Not g) xs e w) ∙ (λ i. tells (p i) (Answer.Refused (k i)) xs)
+    ap (λ (r : Result Op Gate). call_in h r xs) q ∙ sym (kept h (Err g) xs e w) ∙ (λ i. tells (p i) (Answer.Refused (k i)) xs)
 
 -- ---- 11
 
 -- no other test answers it
-only-fault : (g : Gate) (b : Bool) → number_of (refusal g b) ≡ 11 → NoFault (Read.Not g)
+only-fault : (g : Gate) (b : Bool) → number_of (refusal g b) ≡ 11 → NoFault (Err g)
 unfolding pick
 only-fault Gate.NoFault b n = unknown
 only-fault Gate.Frame true n = absurd (omega (arith, n))
@@ -157,17 +157,17 @@ only-fault Gate.Host true n = absurd (omega (arith, n))
 only-fault Gate.Host false n = absurd (omega (arith, n))
 only-fault Gate.Operand b n = absurd (omega (arith, n))
 
-eleven-by : (h : Host) (ws xs : List ℕ) (r : Read) → each is_word ws ≡ true → op_of ws ≡ r → (room ok : Bool) → passes_test h ≡ ok → (by h r xs room ok).number ≡ 11 → (passes_test h ≡ false) ⊎ NoFault r
+eleven-by : (h : Host) (ws xs : List ℕ) (r : Result Op Gate) → each is_word ws ≡ true → op_of ws ≡ r → (room ok : Bool) → passes_test h ≡ ok → (by h r xs room ok).number ≡ 11 → (passes_test h ≡ false) ⊎ NoFault r
 unfolding pick
 eleven-by h ws xs r w q false true e n = absurd (omega (arith, n))
 eleven-by h ws xs r w q false false e n = inl e
 eleven-by h ws xs r w q true false e n = inl e
-eleven-by h ws xs (Read.Not g) w q true true e n =
+eleven-by h ws xs (Err g) w q true true e n =
     let b = is_nil (decoded (state_of h)).frames in
     inr (only-fault g b (sym (ap (λ t. number_of (pick t (refusal g b) Fault.Unsound)) (sound h e)) ∙ n))
-eleven-by h ws xs (Read.Is o) w q true true e n = go (sentences.eleven (state_of h) (record { op = o; within = read-typed ws o w q }) n)
+eleven-by h ws xs (Ok o) w q true true e n = go (sentences.eleven (state_of h) (record { op = o; within = read-typed ws o w q }) n)
   where
-    go : (is_sound (state_of h) ≡ false) ⊎ NoSuchFault o → (passes_test h ≡ false) ⊎ NoFault (Read.Is o)
+    go : (is_sound (state_of h) ≡ false) ⊎ NoSuchFault o → (passes_test h ≡ false) ⊎ NoFault (Ok o)
     go (inl x) = no_true (sym (sound h e) ∙ x)
     go (inr x) = inr (none-such o x)
 
@@ -175,7 +175,7 @@ eleven : (h : Host) (ws xs : List ℕ) → each is_word ws ≡ true → (call_in
 eleven h ws xs w n =
     eleven-by h ws xs (op_of ws) w refl (leb 8 (length xs)) (passes_test h) refl (sym (ap (λ (g : Gave). g.number) (call-is h (op_of ws) xs)) ∙ n)
 
-no-fault-by : (h : Host) (ws xs : List ℕ) {r : Read} → each is_word ws ≡ true → op_of ws ≡ r → (ok : Bool) → passes_test h ≡ ok → NoFault r → (by h r xs true ok).number ≡ 11
+no-fault-by : (h : Host) (ws xs : List ℕ) {r : Result Op Gate} → each is_word ws ≡ true → op_of ws ≡ r → (ok : Bool) → passes_test h ≡ ok → NoFault r → (by h r xs true ok).number ≡ 11
 unfolding pick
 no-fault-by h ws xs w q false e k = refl
 no-fault-by h ws xs w q true e unknown = ap (λ b. number_of (pick b Fault.Unsound Fault.Unsound)) (sound h e)
@@ -204,9 +204,9 @@ granted : (h : Host) (n : ℕ) (xs fs' xs' : List ℕ) (r : ℕ) → is_word n �
 unfolding typed
 granted h n xs fs' xs' r w e g =
     let o = Op.Grant n in
-    let after = (call_in h (Read.Is o) xs).host in
+    let after = (call_in h (Ok o) xs).host in
     let k : passes_test after ≡ true =
-    ap (λ (x : Read). passes_test (call_in h x xs).host) (sym (read_back o w)) ∙ called h (op_words o) xs (grant-words n w) e in
+    ap (λ (x : Result Op Gate). passes_test (call_in h x xs).host) (sym (read_back o w)) ∙ called h (op_words o) xs (grant-words n w) e in
     ap (λ (fs : List ℕ). passes_test (host h.words h.machine fs)) g.fuel ∙ any_fuel h after e k
 
 -- of the world only the fuel changes
@@ -239,7 +239,7 @@ module _ (s : MemoryState) (n : ℕ) (w : is_word n ≡ true) (e : is_sound s �
   same_numbers = ap (λ (x : MemoryState). x.machine) grant-state ∙ ap (λ (x : MemoryState). x.machine) (words-kept.own s e)
 
 grants-by : (h : Host) (n : ℕ) (xs : List ℕ) → is_word n ≡ true → (room ok : Bool) → passes_test h ≡ ok
-    → let after = (by h (Read.Is (Op.Grant n)) xs room ok).host in after ≡ host h.words h.machine after.fuel
+    → let after = (by h (Ok (Op.Grant n)) xs room ok).host in after ≡ host h.words h.machine after.fuel
 unfolding pick
 grants-by h n xs w false ok e = refl
 grants-by h n xs w true false e = refl
@@ -252,9 +252,9 @@ grants-by h n xs w true true e =
     ∙ same-machine h.machine (leb-true 25 (length h.machine) t.0) t.2 in
     λ i. host (p i) (q i) (splice h.fuel 0 (fuel_words (step_words s (Op.Grant n)).state.fuel))
 
-grants : (h : Host) (n : ℕ) (xs : List ℕ) → is_word n ≡ true → let after = (call_in h (Read.Is (Op.Grant n)) xs).host in after ≡ host h.words h.machine after.fuel
+grants : (h : Host) (n : ℕ) (xs : List ℕ) → is_word n ≡ true → let after = (call_in h (Ok (Op.Grant n)) xs).host in after ≡ host h.words h.machine after.fuel
 grants h n xs w =
-    let p = ap (λ (g : Gave). g.host) (call-is h (Read.Is (Op.Grant n)) xs) in
+    let p = ap (λ (g : Gave). g.host) (call-is h (Ok (Op.Grant n)) xs) in
     p ∙ grants-by h n xs w (leb 8 (length xs)) (passes_test h) refl ∙ sym (ap (λ (x : Host). host h.words h.machine x.fuel) p)
 
 -- ---- a set-up
@@ -336,7 +336,7 @@ fails = refl
 
 -- ---- a batch
 
-run-stays : (s : MemoryState) {rs : List Read} {ks : List MemoryCall} → Calls rs ks → is_sound s ≡ true → Stays s (run_words s rs).state
+run-stays : (s : MemoryState) {rs : List (Result Op Gate)} {ks : List MemoryCall} → Calls rs ks → is_sound s ≡ true → Stays s (run_words s rs).state
 run-stays s none e = record { sound = e; setup = refl }
 run-stays s (is o rs ks c) e =
     let a = call_stays s o e in

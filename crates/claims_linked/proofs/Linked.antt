@@ -13,7 +13,7 @@ use Rattle.model.specs.Call.{is_word, typed, Operation}
 use Rattle.model.specs.declared.call.Op.{Op}
 use Rattle.claims_sound.proofs.Tests.{both}
 use Rattle.memory_calls.specs.Call.{op_of}
-use Rattle.memory_calls.specs.declared.call.Read.{Read}
+use Rattle.std.specs.Prelude.{Ok}
 use Rattle.memory_calls.proofs.Back.{read_back}
 use Rattle.memory_calls.proofs.Typed.{read-typed}
 use Rattle.claims_model.specs.Engine.{Turn, turn_call, turn_fuel, run_turns}
@@ -98,7 +98,7 @@ one h e f (a-call-unchecked ws xs ks c) =
 one h e f (a-grant n xs o q) =
     record {
       passes = library.granted h n xs _ _ _ f.0 e (record { fuel = refl; answer = refl; number = refl });
-      state = ap state_of (sym (library.grants h n xs f.0)) ∙ ap (λ (p : Op). state_of (call_in h (Read.Is p) xs).host) (sym q) ∙ library.calls h o xs e f.1;
+      state = ap state_of (sym (library.grants h n xs f.0)) ∙ ap (λ (p : Op). state_of (call_in h (Ok p) xs).host) (sym q) ∙ library.calls h o xs e f.1;
     }
 one h e f (a-run cs xs ks c) = record { passes = library.ran h cs xs f.0 e; state = library.runs h cs xs ks e f.1 c }
 one h e f (a-switch o p q) = subst (λ (x : Op). Leaves h (left_by h (bvm-switch x)) (turn_call (Do p) ∷ [])) q (switched h p e)

@@ -7,7 +7,7 @@ use mathlib.Core.Logic.{◌⊎◌, inl, inr}
 use lib.ListN.{length, get_or}
 use lib.Dec.{eqb, leb}
 use borrow.Author.Tests.{leb-true, eqb-true, eq-eqb}
-use Rattle.model.specs.declared.machine.Outcome.{Outcome}
+use Rattle.std.specs.Prelude.{Option, Some, None}
 use Rattle.model.specs.declared.machine.Stop.{Stop}
 use Rattle.claims_sound.proofs.Tests.{and_left, and_right, both}
 use Rattle.memory_world.specs.Told.{told, outcome_in}
@@ -19,13 +19,13 @@ use Rattle.linked_calls.proofs.Hosts.{numbers, sound, sizes}
 use Rattle.claims_linked.specs.Library.{Passes}
 use Rattle.claims_linked.proofs.Words.{bank_set, numbers-each}
 
-told-small : (o : Outcome) → (told o).0 ≤ 5
-told-small Outcome.None = omega arith
-told-small (Outcome.Some (Stop.Yielded v)) = omega arith
-told-small (Outcome.Some (Stop.Awaiting v)) = omega arith
-told-small (Outcome.Some (Stop.Returned v)) = omega arith
-told-small (Outcome.Some (Stop.Failed v f p)) = omega arith
-told-small (Outcome.Some Stop.CloseIgnored) = omega arith
+told-small : (o : Option Stop) → (told o).0 ≤ 5
+told-small None = omega arith
+told-small (Some (Stop.Yielded v)) = omega arith
+told-small (Some (Stop.Awaiting v)) = omega arith
+told-small (Some (Stop.Returned v)) = omega arith
+told-small (Some (Stop.Failed v f p)) = omega arith
+told-small (Some Stop.CloseIgnored) = omega arith
 
 held_small : (t : Told) → outcome_held t ≡ true → t.0 ≤ 5
 held_small t h =

@@ -20,7 +20,7 @@ use Rattle.memory_world.specs.Decode.{setup_of}
 use Rattle.memory_calls.specs.Call.{refusal, op_of, op_words}
 use Rattle.memory_calls.specs.Answer.{answer_words}
 use Rattle.memory_calls.specs.declared.call.Gate.{Gate}
-use Rattle.memory_calls.specs.declared.call.Read.{Read}
+use Rattle.std.specs.Prelude.{Result, Ok, Err}
 use Rattle.claims_model.specs.Engine.{Turn, turn_call, run_turns}
 use Rattle.memory_step.specs.Step.{MemoryState, is_sound, decoded, looked, set_up_ok, MemoryCall, Do, memory_step}
 use Rattle.memory_step.specs.Sentences.{unchanging}
@@ -34,16 +34,16 @@ use Rattle.claims_linked.specs.Linked.{Link, left_by_all, AllFit, TurnsOfAll, Li
 
 -- ---- a call
 
-module _ (p : Library) (call : Host → Read → List ℕ → Gave) (same : (h : Host) (r : Read) (xs : List ℕ) → call h r xs ≡ call_in h r xs) where
+module _ (p : Library) (call : Host → Result Op Gate → List ℕ → Gave) (same : (h : Host) (r : Result Op Gate) (xs : List ℕ) → call h r xs ≡ call_in h r xs) where
   -- another number, other words of the answer
-  told-number : (h : Host) (o : Operation) (xs : List ℕ) → passes_test h ≡ true → 8 ≤ length xs → ((call h (Read.Is o.op) xs).number ≡ Said.number_of (memory_step (state_of h) (Do o)).answer → ⊥) → ⊥
-  told-number h o xs e l wrong = wrong (ap (λ (g : Gave). g.number) (same h (Read.Is o.op) xs) ∙ (p.told h o xs e l).1)
+  told-number : (h : Host) (o : Operation) (xs : List ℕ) → passes_test h ≡ true → 8 ≤ length xs → ((call h (Ok o.op) xs).number ≡ Said.number_of (memory_step (state_of h) (Do o)).answer → ⊥) → ⊥
+  told-number h o xs e l wrong = wrong (ap (λ (g : Gave). g.number) (same h (Ok o.op) xs) ∙ (p.told h o xs e l).1)
 
-  told-answer : (h : Host) (o : Operation) (xs : List ℕ) → passes_test h ≡ true → 8 ≤ length xs → ((call h (Read.Is o.op) xs).answer ≡ splice xs 0 (answer_words (memory_step (state_of h) (Do o)).answer) → ⊥) → ⊥
-  told-answer h o xs e l wrong = wrong (ap (λ (g : Gave). g.answer) (same h (Read.Is o.op) xs) ∙ (p.told h o xs e l).0)
+  told-answer : (h : Host) (o : Operation) (xs : List ℕ) → passes_test h ≡ true → 8 ≤ length xs → ((call h (Ok o.op) xs).answer ≡ splice xs 0 (answer_words (memory_step (state_of h) (Do o)).answer) → ⊥) → ⊥
+  told-answer h o xs e l wrong = wrong (ap (λ (g : Gave). g.answer) (same h (Ok o.op) xs) ∙ (p.told h o xs e l).0)
 
   -- words that are no call change the machine; so does 13; no such fault is accepted
-  no_call : (h : Host) (ws xs : List ℕ) (g : Gate) → passes_test h ≡ true → 8 ≤ length xs → op_of ws ≡ Read.Not g → ((call h (op_of ws) xs).host ≡ h → ⊥) → ⊥
+  no_call : (h : Host) (ws xs : List ℕ) (g : Gate) → passes_test h ≡ true → 8 ≤ length xs → op_of ws ≡ Err g → ((call h (op_of ws) xs).host ≡ h → ⊥) → ⊥
   no_call h ws xs g e l q wrong = wrong (ap (λ (x : Gave). x.host) (same h (op_of ws) xs ∙ p.no_call h ws xs g e l q))
 
   unchanged : (h : Host) (ws xs : List ℕ) → each is_word ws ≡ true → (call h (op_of ws) xs).number ≡ 13 → ((call h (op_of ws) xs).host ≡ h → ⊥) → ⊥
@@ -55,16 +55,16 @@ module _ (p : Library) (call : Host → Read → List ℕ → Gave) (same : (h :
   no-fault h ws xs w l q n = let z : ◌≡◌ {A = ℕ} 0 11 = sym n ∙ (ap (λ (x : Gave). x.number) (same h (op_of ws) xs) ∙ p.no-fault h ws xs w l q) in omega (arith, z)
 
   -- without room the answer is written; a machine that does not pass is changed; the host's own words are
-  no-room-call : (h : Host) (r : Read) (xs : List ℕ) → length xs < 8 → ((call h r xs).answer ≡ xs → ⊥) → ⊥
+  no-room-call : (h : Host) (r : Result Op Gate) (xs : List ℕ) → length xs < 8 → ((call h r xs).answer ≡ xs → ⊥) → ⊥
   no-room-call h r xs l wrong = wrong (ap (λ (x : Gave). x.answer) (same h r xs ∙ (p.no_room h xs).call r l))
 
-  untested-call : (h : Host) (r : Read) (xs : List ℕ) → passes_test h ≡ false → 8 ≤ length xs → ((call h r xs).host ≡ h → ⊥) → ⊥
+  untested-call : (h : Host) (r : Result Op Gate) (xs : List ℕ) → passes_test h ≡ false → 8 ≤ length xs → ((call h r xs).host ≡ h → ⊥) → ⊥
   untested-call h r xs e l wrong = wrong (ap (λ (x : Gave). x.host) (same h r xs ∙ (p.untested h xs e).call r l))
 
-  beyond-machine : (h : Host) (r : Read) (xs : List ℕ) → (drop 25 (call h r xs).host.machine ≡ drop 25 h.machine → ⊥) → ⊥
+  beyond-machine : (h : Host) (r : Result Op Gate) (xs : List ℕ) → (drop 25 (call h r xs).host.machine ≡ drop 25 h.machine → ⊥) → ⊥
   beyond-machine h r xs wrong = wrong (ap (λ (x : Gave). drop 25 x.host.machine) (same h r xs) ∙ (p.beyond h r [] xs).0.machine)
 
-  beyond-fuel : (h : Host) (r : Read) (xs : List ℕ) → (drop 4 (call h r xs).host.fuel ≡ drop 4 h.fuel → ⊥) → ⊥
+  beyond-fuel : (h : Host) (r : Result Op Gate) (xs : List ℕ) → (drop 4 (call h r xs).host.fuel ≡ drop 4 h.fuel → ⊥) → ⊥
   beyond-fuel h r xs wrong = wrong (ap (λ (x : Gave). drop 4 x.host.fuel) (same h r xs) ∙ (p.beyond h r [] xs).0.fuel)
 
 -- ---- a run
@@ -163,10 +163,10 @@ module _ (p : Library) (test : Host → Bool) (same : (h : Host) → test h ≡ 
 
 module _ (p : Linked) where
   -- a reader takes an operand beyond its type; it does not know words that say a call
-  within : (read : List ℕ → Read) → ((ws : List ℕ) → read ws ≡ op_of ws) → (ws : List ℕ) (o : Op) → each is_word ws ≡ true → read ws ≡ Read.Is o → typed o ≡ false → ⊥
+  within : (read : List ℕ → Result Op Gate) → ((ws : List ℕ) → read ws ≡ op_of ws) → (ws : List ℕ) (o : Op) → each is_word ws ≡ true → read ws ≡ Ok o → typed o ≡ false → ⊥
   within read same ws o w e t = true≢false (sym (p.within ws o w (sym (same ws) ∙ e)) ∙ t)
 
-  said : (read : List ℕ → Read) → ((ws : List ℕ) → read ws ≡ op_of ws) → (o : Op) → typed o ≡ true → (read (op_words o) ≡ Read.Is o → ⊥) → ⊥
+  said : (read : List ℕ → Result Op Gate) → ((ws : List ℕ) → read ws ≡ op_of ws) → (o : Op) → typed o ≡ true → (read (op_words o) ≡ Ok o → ⊥) → ⊥
   said read same o t wrong = wrong (same (op_words o) ∙ p.said o t)
 
   -- a list that is no list of turns; a list that leaves a machine that does not pass
@@ -182,10 +182,10 @@ module _ (p : Batch) where
   listed n cs w wrong = let l = p.listed n cs w in wrong l.list l.calls
 
   -- an answer is left out; words that are no call are accepted
-  long-answers : (s : MemoryState) (rs : List Read) → suc (length (run_words s rs).answers) ≡ length rs → ⊥
+  long-answers : (s : MemoryState) (rs : List (Result Op Gate)) → suc (length (run_words s rs).answers) ≡ length rs → ⊥
   long-answers s rs n = let z = p.long s rs in omega (arith, z, n)
 
-  refused : (s : MemoryState) (rs : List Read) (ks : List MemoryCall) (g : Gate) (more : List Read) → Calls rs ks
+  refused : (s : MemoryState) (rs : List (Result Op Gate)) (ks : List MemoryCall) (g : Gate) (more : List (Result Op Gate)) → Calls rs ks
       → let t = run_turns memory_engine s (map turn_call ks) in let n = Said.number_of (Answer.Refused (pick (is_sound t) (refusal g (is_nil (decoded t).frames)) Fault.Unsound)) in
-      (Said.number_of (get_or (run_words s (rs ++ (Read.Not g ∷ more))).answers (length rs) Answer.Accepted) ≡ n → ⊥) → ⊥
+      (Said.number_of (get_or (run_words s (rs ++ (Err g ∷ more))).answers (length rs) Answer.Accepted) ≡ n → ⊥) → ⊥
   refused s rs ks g more q wrong = wrong (ap (λ a. Said.number_of a) (p.refused s rs ks g more Answer.Accepted q))

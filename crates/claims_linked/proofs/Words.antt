@@ -11,7 +11,7 @@ use borrow.Author.Tests.{leb-true, eqb-true, eq-eqb, ne_eqb}
 use Rattle.lists.specs.Pick.{pick, pick_true, pick-false}
 use Rattle.lists.specs.Parts.{splice}
 use Rattle.heap.specs.Slot.{flag, is_set}
-use Rattle.heap.specs.declared.value.Opt.{Opt}
+use Rattle.std.specs.Prelude.{Option, Some, None}
 use Rattle.model.specs.declared.machine.Fuel.{Fuel}
 use Rattle.claims_sound.proofs.Tests.{and_left, and_right, both, no_false}
 use Rattle.memory_tables.proofs.Padded.{length-splice}
@@ -93,9 +93,9 @@ same-machine ms h e =
 
 -- ---- the fuel
 
-fuel-as : (fs : List ℕ) (n : ℕ) (b : Opt) (r : Bool) → let f : Fuel = record { fuel = n; bank = b; ready = r } in fuel_in (splice fs 0 (fuel_words f)) ≡ f
-fuel-as fs n Opt.None r = λ i. record { fuel = n; bank = pick_true Opt.None (Opt.Some 0) i; ready = flag-back r i }
-fuel-as fs n (Opt.Some a) r = λ i. record { fuel = n; bank = pick-false Opt.None (Opt.Some a) i; ready = flag-back r i }
+fuel-as : (fs : List ℕ) (n : ℕ) (b : Option ℕ) (r : Bool) → let f : Fuel = record { fuel = n; bank = b; ready = r } in fuel_in (splice fs 0 (fuel_words f)) ≡ f
+fuel-as fs n None r = λ i. record { fuel = n; bank = pick_true None (Some 0) i; ready = flag-back r i }
+fuel-as fs n (Some a) r = λ i. record { fuel = n; bank = pick-false None (Some a) i; ready = flag-back r i }
 
 pub fuel-back : (fs : List ℕ) (f : Fuel) → fuel_in (splice fs 0 (fuel_words f)) ≡ f
 fuel-back fs f = fuel-as fs f.fuel f.bank f.ready
@@ -105,8 +105,8 @@ abbrev pub bank_set : List ℕ → Bool
 bank_set fs = eqb (get_or fs 1 0) 1 || eqb (get_or fs 1 0) 0 && eqb (get_or fs 2 0) 0
 
 bank-same : (c a r : ℕ) → (eqb c 1 || eqb c 0 && eqb a 0) ≡ true → bank_words (bank_of c a) r ≡ c ∷ a ∷ r ∷ []
-bank-same zero a r e = ap (λ b. bank_words b r) (pick_true Opt.None (Opt.Some a)) ∙ ap (λ n. 0 ∷ n ∷ r ∷ []) (sym (eqb-true a 0 e))
-bank-same (suc zero) a r e = ap (λ b. bank_words b r) (pick-false Opt.None (Opt.Some a))
+bank-same zero a r e = ap (λ b. bank_words b r) (pick_true None (Some a)) ∙ ap (λ n. 0 ∷ n ∷ r ∷ []) (sym (eqb-true a 0 e))
+bank-same (suc zero) a r e = ap (λ b. bank_words b r) (pick-false None (Some a))
 bank-same (suc (suc c)) a r e =
     let one = ne_eqb (suc (suc c)) 1 (λ q. omega (arith, q)) in
     let none = ne_eqb (suc (suc c)) 0 (λ q. omega (arith, q)) in
@@ -119,13 +119,13 @@ same-fuel fs h e b =
 
 -- ---- what is written passes
 
-fuel-set : (fs : List ℕ) (n : ℕ) (b : Opt) (r : Bool) → let ws = splice fs 0 (fuel_words (record { fuel = n; bank = b; ready = r })) in (leb (get_or ws 3 0) 1 && bank_set ws) ≡ true
-fuel-set fs n Opt.None r = both (flag_small r) refl
-fuel-set fs n (Opt.Some a) r = both (flag_small r) refl
+fuel-set : (fs : List ℕ) (n : ℕ) (b : Option ℕ) (r : Bool) → let ws = splice fs 0 (fuel_words (record { fuel = n; bank = b; ready = r })) in (leb (get_or ws 3 0) 1 && bank_set ws) ≡ true
+fuel-set fs n None r = both (flag_small r) refl
+fuel-set fs n (Some a) r = both (flag_small r) refl
 
-fuel-long : (fs : List ℕ) (n : ℕ) (b : Opt) (r : Bool) → 4 ≤ length fs → length (splice fs 0 (fuel_words (record { fuel = n; bank = b; ready = r }))) ≡ length fs
-fuel-long fs n Opt.None r h = length-splice fs (n ∷ 0 ∷ 0 ∷ flag r ∷ []) 0 h
-fuel-long fs n (Opt.Some a) r h = length-splice fs (n ∷ 1 ∷ a ∷ flag r ∷ []) 0 h
+fuel-long : (fs : List ℕ) (n : ℕ) (b : Option ℕ) (r : Bool) → 4 ≤ length fs → length (splice fs 0 (fuel_words (record { fuel = n; bank = b; ready = r }))) ≡ length fs
+fuel-long fs n None r h = length-splice fs (n ∷ 0 ∷ 0 ∷ flag r ∷ []) 0 h
+fuel-long fs n (Some a) r h = length-splice fs (n ∷ 1 ∷ a ∷ flag r ∷ []) 0 h
 
 module _ (ms fs : List ℕ) where
   -- the five tests of the numbers

@@ -1,6 +1,6 @@
 -- What a program that links the library may rely on, from one call to the next. The functions are those of linked_calls/specs/Host.antt, each
 -- equal to its code; a call's words, as all lent words, have 64 bits.
-use Rattle.std.specs.Prelude.{ℕ, ◌-◌, ◌*◌, ◌≤◌, ◌<◌, ◌≡◌, true, false, ◌&&◌, ◌⊎◌, List, [], ◌∷◌, ◌++◌, map, length, get_or, drop, replicate}
+use Rattle.std.specs.Prelude.{ℕ, ◌-◌, ◌*◌, ◌≤◌, ◌<◌, ◌≡◌, true, false, ◌&&◌, ◌⊎◌, List, [], ◌∷◌, ◌++◌, map, length, get_or, drop, replicate, Result, Ok, Err}
 use Rattle.lists.specs.Chunks.{words}
 use Rattle.lists.specs.Parts.{part, splice}
 use Rattle.heap.specs.declared.fault.Fault.{Fault}
@@ -16,7 +16,6 @@ use Rattle.machine_added.specs.Look.{end_on}
 use Rattle.memory_calls.specs.Call.{refusal, op_of}
 use Rattle.memory_calls.specs.Answer.{answer_words}
 use Rattle.memory_calls.specs.declared.call.Gate.{Gate}
-use Rattle.memory_calls.specs.declared.call.Read.{Read}
 use Rattle.claims_model.specs.Engine as Engine
 use Rattle.claims_model.specs.Engine.{run_turns}
 use Rattle.memory_step.specs.Step.{is_sound, decoded, looked, set_up_ok, MemoryCall, SetUp, Do, memory_step}
@@ -28,9 +27,9 @@ use Rattle.linked_calls.specs.Host.{Host, host, state_of, passes_test, gave, tel
 use Rattle.claims_linked.specs.Batch.{Calls}
 
 -- an unwind of a fault that is none of 01's, in words or in its operand
-pub data NoFault : Read → Type 0 where
-  unknown : NoFault (Read.Not Gate.NoFault)
-  none-such : (o : Op) → NoSuchFault o → NoFault (Read.Is o)
+pub data NoFault : Result Op Gate → Type 0 where
+  unknown : NoFault (Err Gate.NoFault)
+  none-such : (o : Op) → NoSuchFault o → NoFault (Ok o)
 
 -- a machine that passes: 25 words and four of fuel, flags are 0 or 1, an amount is set aside only where there is a bank, the outcome is one of
 -- six, the sizes are the set-up's, and the words are sound (01)
@@ -58,7 +57,7 @@ pub record Begins (h : Host) (given xs : List ℕ) : Type 0 where
 
 -- an answer that does not fit: 11 where 11 is due, else 14, and nothing is changed
 pub record NoRoom (h : Host) (xs : List ℕ) : Type 0 where
-  pub call : (r : Read) → length xs < 8 → call_in h r xs ≡ gave h xs (short (passes_test h))
+  pub call : (r : Result Op Gate) → length xs < 8 → call_in h r xs ≡ gave h xs (short (passes_test h))
   pub run : (cs : List ℕ) → length xs < count_of (length cs) * 8 → run_host h cs xs ≡ gave h xs (short (passes_test h))
   pub look : length xs < 2 → look_in h xs ≡ saw xs (short (passes_test h))
   pub set-up : (given : List ℕ) → length xs < 8 → set_up_in h given xs ≡ gave h xs (short (long h && set_up_ok given h.words))
@@ -70,7 +69,7 @@ unsound = answer_words (Answer.Refused Fault.Unsound)
 
 -- a machine that does not pass: 11, each call of a run answered so, and nothing is changed but the answer
 pub record Untested (h : Host) (xs : List ℕ) : Type 0 where
-  pub call : (r : Read) → 8 ≤ length xs → call_in h r xs ≡ gave h (splice xs 0 unsound) 11
+  pub call : (r : Result Op Gate) → 8 ≤ length xs → call_in h r xs ≡ gave h (splice xs 0 unsound) 11
   pub run : (cs : List ℕ) → count_of (length cs) * 8 ≤ length xs → run_host h cs xs ≡ gave h (splice xs 0 (words answer_words (replicate (count_of (length cs)) (Answer.Refused Fault.Unsound)))) 11
   pub look : 2 ≤ length xs → look_in h xs ≡ saw (splice xs 0 (0 ∷ 0 ∷ [])) 11
   pub grant : (n : ℕ) (fs' xs' : List ℕ) (r : ℕ) → 8 ≤ length xs → Granted h n xs fs' xs' r → (fs' ≡ h.fuel) × (xs' ≡ splice xs 0 unsound) × (r ≡ 11)
@@ -93,12 +92,12 @@ sevens =
 pub record Library : Type 0 where
   -- each is what the Claim's engine does: the set-up, a call, a batch of them
   pub sets-up : (h : Host) (given xs : List ℕ) → (set_up_in h given xs).number ≡ 0 → state_of (set_up_in h given xs).host ≡ (memory_step (state_of h) (SetUp given)).state
-  pub calls : (h : Host) (o : Operation) (xs : List ℕ) → passes_test h ≡ true → 8 ≤ length xs → state_of (call_in h (Read.Is o.op) xs).host ≡ (memory_step (state_of h) (Do o)).state
+  pub calls : (h : Host) (o : Operation) (xs : List ℕ) → passes_test h ≡ true → 8 ≤ length xs → state_of (call_in h (Ok o.op) xs).host ≡ (memory_step (state_of h) (Do o)).state
   pub runs : (h : Host) (cs xs : List ℕ) (ks : List MemoryCall) → passes_test h ≡ true → count_of (length cs) * 8 ≤ length xs → Calls (calls_in (count_of (length cs)) cs) ks
       → state_of (run_host h cs xs).host ≡ run_turns memory_engine (state_of h) (map Engine.turn_call ks)
   -- and answers what it answers: eight words each, over those of the caller, and its number; a run's is 0
   pub told : (h : Host) (o : Operation) (xs : List ℕ) → passes_test h ≡ true → 8 ≤ length xs
-      → let a = (memory_step (state_of h) (Do o)).answer in ((call_in h (Read.Is o.op) xs).answer ≡ splice xs 0 (answer_words a)) × ((call_in h (Read.Is o.op) xs).number ≡ Said.number_of a)
+      → let a = (memory_step (state_of h) (Do o)).answer in ((call_in h (Ok o.op) xs).answer ≡ splice xs 0 (answer_words a)) × ((call_in h (Ok o.op) xs).number ≡ Said.number_of a)
   pub answered : (h : Host) (cs xs : List ℕ) → passes_test h ≡ true → count_of (length cs) * 8 ≤ length xs
       → let told' = (run_words (state_of h) (calls_in (count_of (length cs)) cs)).answers in ((run_host h cs xs).answer ≡ splice xs 0 (words answer_words told')) × ((run_host h cs xs).number ≡ 0)
   -- a set-up is accepted exactly if its words are good and there is room, whatever the machine was: any other is 11, and only the answer is written
@@ -113,13 +112,13 @@ pub record Library : Type 0 where
   pub ran : (h : Host) (cs xs : List ℕ) → each is_word cs ≡ true → passes_test h ≡ true → passes_test (run_host h cs xs).host ≡ true
   pub granted : (h : Host) (n : ℕ) (xs fs' xs' : List ℕ) (r : ℕ) → is_word n ≡ true → passes_test h ≡ true → Granted h n xs fs' xs' r → passes_test (host h.words h.machine fs') ≡ true
   -- `bvm_grant`, which writes the fuel and the answer alone, is the call: that leaves all else too
-  pub grants : (h : Host) (n : ℕ) (xs : List ℕ) → is_word n ≡ true → let after = (call_in h (Read.Is (Op.Grant n)) xs).host in after ≡ host h.words h.machine after.fuel
+  pub grants : (h : Host) (n : ℕ) (xs : List ℕ) → is_word n ≡ true → let after = (call_in h (Ok (Op.Grant n)) xs).host in after ≡ host h.words h.machine after.fuel
   -- with its own fuel, or with that of any other machine that passes
   pub any_fuel : (h g : Host) → passes_test h ≡ true → passes_test g ≡ true → passes_test (host h.words h.machine g.fuel) ≡ true
   -- and there `bvm_call_unchecked` is `bvm_call`
-  pub kept : (h : Host) (r : Read) (xs : List ℕ) → passes_test h ≡ true → 8 ≤ length xs → kept_in h r xs ≡ call_in h r xs
+  pub kept : (h : Host) (r : Result Op Gate) (xs : List ℕ) → passes_test h ≡ true → 8 ≤ length xs → kept_in h r xs ≡ call_in h r xs
   -- words that are no call are refused as the call that their code names, and only the answer is written
-  pub no_call : (h : Host) (ws xs : List ℕ) (g : Gate) → passes_test h ≡ true → 8 ≤ length xs → op_of ws ≡ Read.Not g
+  pub no_call : (h : Host) (ws xs : List ℕ) (g : Gate) → passes_test h ≡ true → 8 ≤ length xs → op_of ws ≡ Err g
       → call_in h (op_of ws) xs ≡ tells h (Answer.Refused (refusal g (is_nil (decoded (state_of h)).frames))) xs
   -- 01: "11, 12, 13, 15, 16 change no word": of the machine's 25 and the fuel's four neither
   pub unchanged : (h : Host) (ws xs : List ℕ) → each is_word ws ≡ true → among (call_in h (op_of ws) xs).number unchanging ≡ true → (call_in h (op_of ws) xs).host ≡ h
@@ -133,7 +132,7 @@ pub record Library : Type 0 where
   pub no-fault : (h : Host) (ws xs : List ℕ) → each is_word ws ≡ true → 8 ≤ length xs → NoFault (op_of ws) → (call_in h (op_of ws) xs).number ≡ 11
   pub passing : (h : Host) → passes_test h ≡ true → Passes h
   pub exactly : (h : Host) → Passes h → passes_test h ≡ true
-  pub beyond : (h : Host) (r : Read) (ws xs : List ℕ) → Beyond h (call_in h r xs).host × Beyond h (run_host h ws xs).host × Beyond h (set_up_in h ws xs).host
+  pub beyond : (h : Host) (r : Result Op Gate) (ws xs : List ℕ) → Beyond h (call_in h r xs).host × Beyond h (run_host h ws xs).host × Beyond h (set_up_in h ws xs).host
   -- a look writes where the top frame's registers begin and end, and the words of the stack between these are what a look hands back
   pub sees : (h : Host) (zs : List ℕ) → passes_test h ≡ true → 2 ≤ length zs
       → let w = decoded (state_of h) in look_in h zs ≡ saw (splice zs 0 (top_base w.frames ∷ end_on w.frames w.stack ∷ [])) 0

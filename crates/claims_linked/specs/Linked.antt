@@ -1,11 +1,10 @@
 -- A list of linked calls, with other fuel words between them, is a list of turns of the Claim's engine (claims_memory/specs/Claim.antt), and
 -- leaves what these leave: so what is claimed of every such list is claimed of every program that links the library; `restored` and `untouched` say it.
-use Rattle.std.specs.Prelude.{ℕ, ◌*◌, ◌≤◌, ◌≡◌, true, List, [], ◌∷◌, ◌++◌, map, length}
+use Rattle.std.specs.Prelude.{ℕ, ◌*◌, ◌≤◌, ◌≡◌, true, List, [], ◌∷◌, ◌++◌, map, length, Ok}
 use Rattle.model.specs.Lists.{each}
 use Rattle.model.specs.Call.{is_word, typed, Operation}
 use Rattle.model.specs.declared.call.Op.{Op}
 use Rattle.memory_calls.specs.Call.{op_of, op_words}
-use Rattle.memory_calls.specs.declared.call.Read.{Read}
 use Rattle.claims_model.specs.Engine.{Turn, turn_call, turn_fuel, run_turns}
 use Rattle.claims_model.specs.Demand3.{Enters, Suspends, Stops, Waits, Goes}
 use Rattle.memory_step.specs.Step.{MemoryState, MemoryCall, SetUp, Do}
@@ -33,10 +32,10 @@ abbrev pub left_by : Host → Link → Host
 left_by h (bvm-set-up given xs) = (set_up_in h given xs).host
 left_by h (bvm-call ws xs) = (call_in h (op_of ws) xs).host
 left_by h (bvm-call-unchecked ws xs) = (kept_in h (op_of ws) xs).host
-left_by h (bvm-grant n xs) = host h.words h.machine (call_in h (Read.Is (Op.Grant n)) xs).host.fuel
+left_by h (bvm-grant n xs) = host h.words h.machine (call_in h (Ok (Op.Grant n)) xs).host.fuel
 left_by h (bvm-run cs xs) = (run_host h cs xs).host
 -- (linked_switch/specs/Switch.antt: Switched.done, whose equation has this host on its right side, whatever the answer's words)
-left_by h (bvm-switch o) = overwritten h (do_words (state_of h) (Read.Is o)).state
+left_by h (bvm-switch o) = overwritten h (do_words (state_of h) (Ok o)).state
 left_by h (other-fuel fs) = host h.words h.machine fs
 
 abbrev pub left_by_all : Host → List Link → Host
@@ -90,8 +89,8 @@ pub record Between (h : Host) (x : Link) (k : MemoryCall) (ls : List Link) (ts :
 
 pub record Linked : Type 0 where
   -- what a call's words say has operands that their types can hold, and every operation with such operands has words that say it
-  pub within : (ws : List ℕ) (o : Op) → each is_word ws ≡ true → op_of ws ≡ Read.Is o → typed o ≡ true
-  pub said : (o : Op) → typed o ≡ true → op_of (op_words o) ≡ Read.Is o
+  pub within : (ws : List ℕ) (o : Op) → each is_word ws ≡ true → op_of ws ≡ Ok o → typed o ≡ true
+  pub said : (o : Op) → typed o ≡ true → op_of (op_words o) ≡ Ok o
   -- every list of linked calls is a list of turns
   pub turns : (h : Host) (ls : List Link) → AllFit h ls → (ts : List (Turn MemoryCall)) × TurnsOfAll ls ts
   -- and from a machine that passes, as an accepted `bvm_set_up` leaves one (`Library.begun`), it leaves what they leave, which passes

@@ -8,7 +8,7 @@ use mathlib.Core.Option.{none, some}
 use lib.ListN.{length, drop}
 use lib.Dec.{eqb}
 use Rattle.lists.specs.Pick.{pick}
-use Rattle.heap.specs.declared.value.Opt.{Opt}
+use Rattle.std.specs.Prelude.{Some}
 use Rattle.heap.specs.declared.object.CoroState.{CoroState}
 use Rattle.model.specs.declared.machine.Cont.{Cont}
 use Rattle.claims_model.specs.Engine.{Seen, View, Engine, Turn, run_turns, seen_created, seen_running, seen_awaiting, seen_returned, seen_in, state_is}
@@ -117,7 +117,7 @@ module _ (e d : Engine) (f : Follows e d) where
             down (λ v. v.after.coro c ≡ pick (eqb v.number 17) (ended_as CoroState.Failed (register_word v.before src)) (v.before.coro c)) s k
             (p.throws-created c (f.to s) (f.by s k) pc dst r src (f.op s k ∙ o) (ap (λ v. register_word v r) (f.view s) ∙ i) (ap (λ v. state_is v seen_created c) (f.view s) ∙ n) (up (λ v. whom v.before v.op ≡ none) s k u));
         integer = λ c s k kind x h o i.
-            down (λ v. v.after.integer (recorded (v.after.coro c)) ≡ Opt.Some x) s k (p.integer c (f.to s) (f.by s k) kind x (up-returns e d f s k c h) (f.op s k ∙ o) i);
+            down (λ v. v.after.integer (recorded (v.after.coro c)) ≡ Some x) s k (p.integer c (f.to s) (f.by s k) kind x (up-returns e d f s k c h) (f.op s k ∙ o) i);
         word = λ c s k kind x h o i.
             down (λ v. recorded (v.after.coro c) ≡ result_of kind x 0) s k (p.word c (f.to s) (f.by s k) kind x (up-returns e d f s k c h) (f.op s k ∙ o) i);
         closed = λ c s k g pc h o. down (λ v. recorded (v.after.coro c) ≡ 0) s k (p.closed c (f.to s) (f.by s k) g pc (up-returns e d f s k c h) (f.op s k ∙ o));

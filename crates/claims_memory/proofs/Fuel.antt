@@ -2,7 +2,7 @@
 use mathlib.Core.Path.{◌≡◌, refl, sym, ap, ◌∙◌}
 use mathlib.Core.Bool.{true, false, ◌&&◌, ◌||◌}
 use lib.Dec.{eqb}
-use Rattle.heap.specs.declared.value.Opt.{Opt}
+use Rattle.std.specs.Prelude.{Option, ℕ, Some, None}
 use Rattle.model.specs.Sound.{is_none, sound}
 use Rattle.model.specs.declared.machine.Fuel.{Fuel}
 use Rattle.claims_sound.proofs.Tests.{and_left, both, no_false}
@@ -19,9 +19,9 @@ unpacked : (s : MemoryState) → is_sound s ≡ true → Sound false (decoded s)
 unpacked s e = sound→ (decoded s) (words-kept.stands s e) (λ z. no_false z)
 
 -- the test of a fuel record is the machine's
-bankless : (o : Opt) → unbanked o ≡ is_none o
-bankless Opt.None = refl
-bankless (Opt.Some n) = refl
+bankless : (o : Option ℕ) → unbanked o ≡ is_none o
+bankless None = refl
+bankless (Some n) = refl
 
 same_test : (f : Fuel) → fuel_sound f ≡ (is_none f.bank || eqb f.fuel 0)
 same_test f = ap (λ b. b || eqb f.fuel 0) (bankless f.bank)

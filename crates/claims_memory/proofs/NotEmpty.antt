@@ -8,7 +8,7 @@ use Rattle.lists.specs.Pick.{pick}
 use Rattle.model.specs.World.{fresh}
 use Rattle.model.specs.Call as Model
 use Rattle.model.specs.Compute.{computed}
-use Rattle.heap.specs.declared.value.Opt.{Opt}
+use Rattle.std.specs.Prelude.{None}
 use Rattle.memory_tables.specs.Sizes.{setup_words, stack_size, frames_size, chain_size, saved_stack_size, saved_frames_size, slots_size, queue_size, setup_size}
 use Rattle.memory_world.specs.Memory.{Lent}
 use Rattle.memory_world.specs.Words.{numbers_of}
@@ -57,7 +57,7 @@ slices =
     }
 
 abbrev start : MemoryState
-start = record { words = slices; machine = numbers_of (fresh wide); fuel = record { fuel = 7; bank = Opt.None; ready = false } }
+start = record { words = slices; machine = numbers_of (fresh wide); fuel = record { fuel = 7; bank = None; ready = false } }
 
 abbrev first : MemoryCall
 first = SetUp (setup_words wide)

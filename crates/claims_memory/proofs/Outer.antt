@@ -20,7 +20,7 @@ use Rattle.model.specs.Step.{Out, told, call, tested, step}
 use Rattle.model.specs.Compute.{computed}
 use Rattle.model.specs.declared.machine.Fuel.{Fuel}
 use Rattle.model.specs.declared.machine.Stop.{Stop}
-use Rattle.model.specs.declared.machine.Outcome.{Outcome}
+use Rattle.std.specs.Prelude.{Some}
 use Rattle.model.specs.declared.call.Op.{Op}
 use Rattle.claims_sound.proofs.Tests.{no_false, and_left, picked}
 use Rattle.claims_sound.proofs.Sound.{sound→}
@@ -39,7 +39,7 @@ use Rattle.claims_memory.proofs.Follows.{Follows}
 
 -- an outcome that no machine has, and no view shows
 abbrev spoiled : World → World
-spoiled w = with_outcome (Outcome.Some (Stop.Failed 0 (2 ^ 32) 0)) w
+spoiled w = with_outcome (Some (Stop.Failed 0 (2 ^ 32) 0)) w
 
 spoiled-unsound : (w : World) → sound (spoiled w) ≡ false
 spoiled-unsound w = go (sound (spoiled w)) refl

@@ -19,8 +19,9 @@ use Rattle.model.specs.Call.{Call, SetUp, Do, Operation, as_call}
 use Rattle.model.specs.Step.{call}
 use Rattle.model.specs.declared.machine.Driver.{Driver}
 use Rattle.model.specs.declared.machine.Charge.{Charge}
-use Rattle.model.specs.declared.coro.Entered as E
-use Rattle.model.specs.declared.call.OptPc.{OptPc}
+use Rattle.std.specs.Prelude.{Result, Some}
+use Rattle.model.specs.declared.coro.Entered.{Entered}
+use Rattle.heap.specs.declared.fault.Fault.{Fault}
 use Rattle.model.specs.declared.call.Op.{Op}
 use Rattle.claims_model.specs.Says.{Sent, nothing, gets, closes}
 use Rattle.claims_model.proofs.Entry.{enters, at, awaits, act, nobody, entry, accepts_as, accepts, sent_to, charged, entry_by, entry_of, driver_of, sent_of, pc_by}
@@ -40,7 +41,7 @@ use Rattle.claims_model.proofs.Claim.{StepCase, anew, same, does, step_case, fre
 accepts-exactly : (w : World) (c : ℕ) (d : Driver) → is_entered (coro_enter c d w).answer ≡ accepts w c
 accepts-exactly w c d = go (coro_enter c d w) (enter-case c d w)
   where
-    go : (e : After E.Entered) → EnterCase c d w e → is_entered e.answer ≡ accepts w c
+    go : (e : After (Result Entered Fault)) → EnterCase c d w e → is_entered e.answer ≡ accepts w c
     go e (e-in k r h a b m) = is-in (is_created k.state) k.waiting ∙ sym a
     go e (e-out f h) = sym h
 
@@ -126,8 +127,8 @@ starts-enters w o n p ok c d v may e s m a = named-enters w (as_call o s.fits) c
     gate : ok ≡ true
     gate = sym (ap passes e) ∙ s.gate
 
-    pay : (charge (OptPc.Some p) w).answer ≡ Charge.Done n
-    pay = ap (λ x. (charge (OptPc.Some x) w).answer) (sym (ap pc_by e)) ∙ s.paid
+    pay : (charge (Some p) w).answer ≡ Charge.Done n
+    pay = ap (λ x. (charge (Some x) w).answer) (sym (ap pc_by e)) ∙ s.paid
 
     opened : entry_by (at p ok (enters c d v may)) w ≡ entry c d (sent_to (coro w c) v)
     opened =

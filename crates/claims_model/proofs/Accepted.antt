@@ -19,7 +19,7 @@ use Rattle.model.specs.Call.{Call, typed, as_call}
 use Rattle.model.specs.declared.machine.Active.{Active}
 use Rattle.model.specs.declared.machine.Driver.{Driver}
 use Rattle.model.specs.declared.machine.Charge.{Charge}
-use Rattle.model.specs.declared.call.OptPc.{OptPc}
+use Rattle.std.specs.Prelude.{Some}
 use Rattle.model.specs.declared.call.Op.{Op}
 use Rattle.claims_model.specs.Says.{Sent}
 use Rattle.claims_model.proofs.Entry.{Act, at, by_host, finishes, unwinds, other, act, entry, accepts, entry_of, driver_of, sent_of, pc_by}
@@ -64,7 +64,7 @@ pub record Starts (w : World) (o : Op) (n : ℕ) : Type 0 where
   pub healthy : sound w ≡ true
   pub frame : is_nil w.frames ≡ false
   pub gate : passes (act w o) ≡ true
-  pub paid : (charge (OptPc.Some (pc_by (act w o))) w).answer ≡ Charge.Done n
+  pub paid : (charge (Some (pc_by (act w o))) w).answer ≡ Charge.Done n
 
 pub record Acceptance (w : World) (n : ℕ) (k : Core) (r : Rest) : Type 0 where
   pub resume : (pc dst c src : ℕ) (s : Starts w (Op.Resume pc dst c src) n) → Fits w (reg w c) k r → Enters (reg w c) w (as_call (Op.Resume pc dst c src) s.fits)

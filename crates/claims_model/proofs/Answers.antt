@@ -11,7 +11,7 @@ use Rattle.heap.specs.Table.{next_word, push_object}
 use Rattle.heap.specs.Charge.{sat_add}
 use Rattle.heap.specs.Fault as Faults
 use Rattle.heap.specs.declared.fault.Fault.{Fault}
-use Rattle.heap.specs.declared.value.Opt.{Opt}
+use Rattle.std.specs.Prelude.{Option, Result, Some, None, Ok}
 use Rattle.heap.specs.declared.object.CoroState.{CoroState}
 use Rattle.model.specs.Program.{func}
 use Rattle.model.specs.Object.{Core, Rest, Coroutine, Absent, Is}
@@ -25,7 +25,6 @@ use Rattle.model.specs.Machine.{caught, stop_or, escape, take_handler, search_as
 use Rattle.model.specs.Sound.{sound}
 use Rattle.model.specs.Answer.{number_of}
 use Rattle.model.specs.declared.program.Handler.{Handler}
-use Rattle.model.specs.declared.program.Caught.{Caught}
 use Rattle.model.specs.declared.machine.Cont.{Cont}
 use Rattle.model.specs.declared.machine.Driver.{Driver}
 use Rattle.model.specs.declared.machine.Active.{Active}
@@ -33,8 +32,6 @@ use Rattle.model.specs.declared.machine.Frame.{Frame}
 use Rattle.model.specs.declared.machine.Fuel.{Fuel}
 use Rattle.model.specs.declared.machine.Stop.{Stop}
 use Rattle.model.specs.declared.machine.Charge.{Charge}
-use Rattle.model.specs.declared.coro.WordOr.{WordOr}
-use Rattle.model.specs.declared.call.OptPc.{OptPc}
 use Rattle.claims_model.specs.Engine as Engine
 use Rattle.claims_model.specs.Says.{banked}
 use Rattle.claims_model.specs.Held.{at}
@@ -63,15 +60,15 @@ handler-number n value w = fast (eqb w.fuel.fuel 0) refl
     tail : After Charge → ℕ
     tail ch = number_of (caught n value ch.world ch.answer).answer
 
-    left : (b : Opt) → eqb w.fuel.fuel 0 ≡ true → (unbank_at b w.fuel).fuel ≡ banked b
-    left Opt.None q = eqb-true w.fuel.fuel 0 q
-    left (Opt.Some m) q = refl
+    left : (b : Option ℕ) → eqb w.fuel.fuel 0 ≡ true → (unbank_at b w.fuel).fuel ≡ banked b
+    left None q = eqb-true w.fuel.fuel 0 q
+    left (Some m) q = refl
 
-    slow : (b : Bool) → tail (pick b (after (unbank w) Charge.Spent) (charge_at OptPc.None (unbank w))) ≡ pick b 10 0
+    slow : (b : Bool) → tail (pick b (after (unbank w) Charge.Spent) (charge_at None (unbank w))) ≡ pick b 10 0
     slow true = refl
     slow false = refl
 
-    fast : (b : Bool) → eqb w.fuel.fuel 0 ≡ b → tail (pick b (charge_slow OptPc.None w) (after (spend w) (Charge.Done 0))) ≡ pick b (pick (eqb (banked w.fuel.bank) 0) 10 0) 0
+    fast : (b : Bool) → eqb w.fuel.fuel 0 ≡ b → tail (pick b (charge_slow None w) (after (spend w) (Charge.Done 0))) ≡ pick b (pick (eqb (banked w.fuel.bank) 0) 10 0) 0
     fast false q = refl
     fast true q = slow (eqb (unbank w).fuel.fuel 0) ∙ ap (λ m. pick (eqb m 0) 10 0) (left w.fuel.bank q)
 
@@ -113,7 +110,7 @@ module _ (v : Engine.View) (value f pc : ℕ) where
   leaving x xs next w h e Cont.Discard = popped x xs next w h e
   leaving x xs next w h e Cont.Coro = body-left x xs next w h e w.chain refl
 
-  looked : (x : Frame) (xs : List Frame) → Next xs → (w : World) → Sees v w → w.fuel ≡ v.fuel → {c : Caught} {b : Bool}
+  looked : (x : Frame) (xs : List Frame) → Next xs → (w : World) → Sees v w → w.fuel ≡ v.fuel → {c : Option Handler} {b : Bool}
       → Looks (func w.setup x.func).handlers x.pc c b → number_of (search_as c x xs value f pc (search xs value f pc) w).answer ≡ pick b (handled v) (ending x.cont v value w.chain (unwind_number v value xs))
   unfolding pick
   looked x xs next w h e nothing = leaving x xs next w h e x.cont
@@ -132,9 +129,9 @@ module _ (w : World) (h : sound w ≡ true) where
   frames-end : (x : ℕ) (fs : List Frame) (u : World) → Sees (view_of w) u → u.frames ≡ fs → u.chain ≡ w.chain → u.fuel ≡ w.fuel → number_of (search_frames x u).answer ≡ unwind_number (view_of w) x fs w.chain
   frames-end x fs u s p q e = search-ends (view_of w) x (top_func u.frames) (top_pc u.frames) u.frames u refl s e ∙ (λ i. unwind_number (view_of w) x (p i) (q i))
 
-  word-ends : (x : ℕ) (pc : OptPc) → number_of (search_frames x (store_some pc w)).answer ≡ unwind_number_at (view_of w) x pc
-  word-ends x OptPc.None = frames-end x w.frames w (sees w h) refl refl refl
-  word-ends x (OptPc.Some p) = frames-end x (at p w.frames) (store_pc p w) (stored-sees w h (OptPc.Some p)) (at_top p w.frames) refl refl
+  word-ends : (x : ℕ) (pc : Option ℕ) → number_of (search_frames x (store_some pc w)).answer ≡ unwind_number_at (view_of w) x pc
+  word-ends x None = frames-end x w.frames w (sees w h) refl refl refl
+  word-ends x (Some p) = frames-end x (at p w.frames) (store_pc p w) (stored-sees w h (Some p)) (at_top p w.frames) refl refl
 
   object-at : (f : Fault) (u : World) (fs : List Frame) → u.slots ≡ w.slots → u.setup ≡ w.setup → u.frames ≡ fs → u.chain ≡ w.chain → u.fuel ≡ w.fuel
       → number_of (and_then (alloc u.setup.costs.error (error_of f u) u) search_made).answer ≡ pick (fits u u.setup.costs.error) (pick (slots_full u) 14 (unwind_number (view_of w) (next_word w.slots) fs w.chain)) 9
@@ -144,26 +141,26 @@ module _ (w : World) (h : sound w ≡ true) where
       y : World
       y = with_used (sat_add u.used u.setup.costs.error) (with_slots (push_object u.slots (error_of f u)) u)
 
-      made : (a b : Bool) → After WordOr
-      made a b = pick a (refuse u Fault.OutOfMemory) (pick b (refuse u Fault.Full) (after y (WordOr.Word (next_word u.slots))))
+      made : (a b : Bool) → After (Result ℕ Fault)
+      made a b = pick a (refuse u Fault.OutOfMemory) (pick b (refuse u Fault.Full) (after y (Ok (next_word u.slots))))
 
       go : (a b : Bool) → number_of (and_then (made (not a) b) search_made).answer ≡ pick a (pick b 14 (unwind_number (view_of w) (next_word w.slots) fs w.chain)) 9
       go false b = refl
       go true true = refl
       go true false = frames-end (next_word u.slots) fs y (made-sees w h f u es e q) p q t ∙ ap (λ xs. unwind_number (view_of w) (next_word xs) fs w.chain) es
 
-  abbrev Made : ℕ → OptPc → ℕ
+  abbrev Made : ℕ → Option ℕ → ℕ
   Made x pc = let v = view_of w in pick (bytes_fit v v.rules.error_cost) (pick v.full 14 (unwind_number_at v x pc)) 9
 
-  object-ends : (f : Fault) (pc : OptPc) (x : ℕ) → next_word w.slots ≡ x → let u = store_some pc w in number_of (and_then (alloc u.setup.costs.error (error_of f u) u) search_made).answer ≡ Made x pc
-  object-ends f OptPc.None x e = object-at f w w.frames refl refl refl refl refl ∙ ap (λ y. Made y OptPc.None) e
-  object-ends f (OptPc.Some p) x e = object-at f (store_pc p w) (at p w.frames) refl refl (at_top p w.frames) refl refl ∙ ap (λ y. Made y (OptPc.Some p)) e
+  object-ends : (f : Fault) (pc : Option ℕ) (x : ℕ) → next_word w.slots ≡ x → let u = store_some pc w in number_of (and_then (alloc u.setup.costs.error (error_of f u) u) search_made).answer ≡ Made x pc
+  object-ends f None x e = object-at f w w.frames refl refl refl refl refl ∙ ap (λ y. Made y None) e
+  object-ends f (Some p) x e = object-at f (store_pc p w) (at p w.frames) refl refl (at_top p w.frames) refl refl ∙ ap (λ y. Made y (Some p)) e
 
-  pub throw-answer : (x : ℕ) (pc : OptPc) → number_of (unwind (Fault.Throw x) pc w).answer ≡ unwind_number_at (view_of w) x pc
+  pub throw-answer : (x : ℕ) (pc : Option ℕ) → number_of (unwind (Fault.Throw x) pc w).answer ≡ unwind_number_at (view_of w) x pc
   unfolding unwind pick
   throw-answer x pc = word-ends x pc
 
-  pub raise-answer : (f : Fault) (pc : OptPc) (x : ℕ) → ((y : ℕ) → f ≡ Fault.Throw y → ⊥) → raised (view_of w) f ≡ some x → number_of (unwind f pc w).answer ≡ Made x pc
+  pub raise-answer : (f : Fault) (pc : Option ℕ) (x : ℕ) → ((y : ℕ) → f ≡ Fault.Throw y → ⊥) → raised (view_of w) f ≡ some x → number_of (unwind f pc w).answer ≡ Made x pc
   unfolding unwind pick
   raise-answer Fault.None pc x n e = no-some refl e
   raise-answer Fault.NullReference pc x n e = object-ends Fault.NullReference pc x (one-some refl e)
@@ -184,7 +181,7 @@ module _ (w : World) (h : sound w ≡ true) where
   raise-answer Fault.GrantTooLarge pc x n e = no-some refl e
   raise-answer (Fault.Throw y) pc x n e = absurd (n y refl)
 
-  pub pass-answer : (f : Fault) (pc : OptPc) → raised (view_of w) f ≡ none → number_of (unwind f pc w).answer ≡ pick (eqb (Faults.number_of f) 9 || eqb (Faults.number_of f) 10) (Faults.number_of f) 11
+  pub pass-answer : (f : Fault) (pc : Option ℕ) → raised (view_of w) f ≡ none → number_of (unwind f pc w).answer ≡ pick (eqb (Faults.number_of f) 9 || eqb (Faults.number_of f) 10) (Faults.number_of f) 11
   unfolding unwind pick
   pass-answer Fault.None pc e = refl
   pass-answer Fault.NullReference pc e = no-some e refl

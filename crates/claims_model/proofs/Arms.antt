@@ -11,7 +11,8 @@ use Rattle.lists.specs.Pick.{pick}
 use Rattle.heap.specs.Word.{nil}
 use Rattle.heap.specs.Object.{code_of}
 use Rattle.heap.specs.declared.fault.Fault.{Fault}
-use Rattle.heap.specs.declared.value.Opt.{Opt}
+use Rattle.std.specs.Prelude.{Option as RustOption, Result, Some, None, Ok, Err}
+use Rattle.heap.specs.declared.object.CoroState.{CoroState}
 use Rattle.model.specs.State.{is_returned}
 use Rattle.model.specs.Program.{func}
 use Rattle.model.specs.Object.{Rest, Coroutine, Absent, Is}
@@ -26,9 +27,6 @@ use Rattle.model.specs.Exec.{fault, put_made, window, coro_new, indirect, coro_n
 use Rattle.model.specs.declared.machine.Cont.{Cont}
 use Rattle.model.specs.declared.machine.Frame.{Frame}
 use Rattle.model.specs.declared.machine.Charge.{Charge}
-use Rattle.model.specs.declared.coro.WordOr.{WordOr}
-use Rattle.model.specs.declared.coro.Stated.{Stated}
-use Rattle.model.specs.declared.call.OptPc.{OptPc}
 use Rattle.claims_model.specs.Touches.{May, may}
 use Rattle.claims_model.proofs.Entry.{neither}
 use Rattle.claims_model.proofs.Cores.{m-plain}
@@ -40,9 +38,9 @@ use Rattle.claims_model.proofs.Quiet.{same-worked, grown-worked, create-grown, i
 
 -- ---- push_frame
 
-pub data PushCase (f closure : ℕ) (cont : Cont) (w : World) : After WordOr → Type 0 where
-  p-in : (n : ℕ) → PushCase f closure cont w (after (with_frames (frame f (length w.stack) closure cont ∷ w.frames) (with_stack (w.stack ++ replicate n 0) w)) (WordOr.Word (length w.stack)))
-  p-out : (e : Fault) → PushCase f closure cont w (after w (WordOr.Refused e))
+pub data PushCase (f closure : ℕ) (cont : Cont) (w : World) : After (Result ℕ Fault) → Type 0 where
+  p-in : (n : ℕ) → PushCase f closure cont w (after (with_frames (frame f (length w.stack) closure cont ∷ w.frames) (with_stack (w.stack ++ replicate n 0) w)) (Ok (length w.stack)))
+  p-out : (e : Fault) → PushCase f closure cont w (after w (Err e))
 
 pub push_case : (f closure : ℕ) (cont : Cont) (w : World) → PushCase f closure cont w (push_frame f closure cont w)
 unfolding push_frame pick
@@ -51,7 +49,7 @@ push_case f closure cont w = go (leb w.setup.limits.depth (length w.frames) || l
     n : ℕ
     n = (func w.setup f).regs
 
-    go : (b : Bool) → PushCase f closure cont w (pick b (refuse w Fault.StackOverflow) (after (with_frames (frame f (length w.stack) closure cont ∷ w.frames) (with_stack (w.stack ++ replicate n 0) w)) (WordOr.Word (length w.stack))))
+    go : (b : Bool) → PushCase f closure cont w (pick b (refuse w Fault.StackOverflow) (after (with_frames (frame f (length w.stack) closure cont ∷ w.frames) (with_stack (w.stack ++ replicate n 0) w)) (Ok (length w.stack))))
     go true = p-out Fault.StackOverflow
     go false = p-in n
 
@@ -61,9 +59,9 @@ push-worked f closure cont n w c e = pushes (frame f (length w.stack) closure co
 
 -- ---- the arms
 
-put-made : {p : Option ℕ} {b : Bool} (dst : ℕ) (w : World) (m : WordOr) → Worked (may p (some dst) b) m-plain (view w) (view (put_made dst w m).world)
-put-made dst w (WordOr.Word v) = puts dst v refl done
-put-made dst w (WordOr.Refused f) = done
+put-made : {p : Option ℕ} {b : Bool} (dst : ℕ) (w : World) (m : Result ℕ Fault) → Worked (may p (some dst) b) m-plain (view w) (view (put_made dst w m).world)
+put-made dst w (Ok v) = puts dst v refl done
+put-made dst w (Err f) = done
 
 pub new-arm : (p dst f argc : ℕ) (v : World) → Arm (may (some p) (some dst) false) v p neither false (coro_new dst f argc v).world
 unfolding coro_new
@@ -86,7 +84,7 @@ hook-worked hook pc dst c w = go (push_frame hook nil (Cont.Value dst) (store_pc
     left : List ℕ → View
     left xs = record { setup = u.setup; stack = xs; frames = top ∷ u.frames; chain = u.chain; cores = (view u).cores }
 
-    go : (o : After WordOr) → PushCase hook nil (Cont.Value dst) u o → Worked (may (some pc) none true) m-plain (view w) (view (hooked w c o.world o.answer).world)
+    go : (o : After (Result ℕ Fault)) → PushCase hook nil (Cont.Value dst) u o → Worked (may (some pc) none true) m-plain (view w) (view (hooked w c o.world o.answer).world)
     go o (p-in n) =
         tops (set_pc pc) (keeps-pc pc) (pc, refl, refl)
         (subst (λ xs. Worked (may (some pc) none true) m-plain (view u) (left xs)) (sym (set-append-at u.stack (replicate n 0) (length u.stack) 0 c (omega arith))) (pushes top (set (replicate n 0) 0 c) refl refl refl))
@@ -101,21 +99,21 @@ spawn-arm p dst callee argc v = a-works refl refl (by v.setup.hook)
     paid hook c w Charge.Spent = done
     paid hook c w (Charge.Close n) = hook-worked hook p dst c w
 
-    made : (hook : ℕ) (w : World) (m : WordOr) → Worked (may (some p) none true) m-plain (view w) (view (spawn_made hook p dst w m).world)
-    made hook w (WordOr.Word c) = same-worked (charge-none w) (paid hook c (charge OptPc.None w).world (charge OptPc.None w).answer)
-    made hook w (WordOr.Refused f) = done
+    made : (hook : ℕ) (w : World) (m : Result ℕ Fault) → Worked (may (some p) none true) m-plain (view w) (view (spawn_made hook p dst w m).world)
+    made hook w (Ok c) = same-worked (charge-none w) (paid hook c (charge None w).world (charge None w).answer)
+    made hook w (Err f) = done
 
-    by : (h : Opt) → Worked (may (some p) none true) m-plain (view v) (view (spawn_with h p dst callee argc v).world)
-    by Opt.None = done
-    by (Opt.Some hook) = let o = indirect dst callee argc v in grown-worked (indirect-grown dst callee argc v) (made hook o.world o.answer)
+    by : (h : RustOption ℕ) → Worked (may (some p) none true) m-plain (view v) (view (spawn_with h p dst callee argc v).world)
+    by None = done
+    by (Some hook) = let o = indirect dst callee argc v in grown-worked (indirect-grown dst callee argc v) (made hook o.world o.answer)
 
 pub status-arm : (p dst c : ℕ) (v : World) → Arm (may (some p) (some dst) false) v p neither false (coro_status dst c v).world
 unfolding coro_status
 status-arm p dst c v = a-works refl refl (go (coro_state v (reg v c)))
   where
-    go : (s : Stated) → Worked (may (some p) (some dst) false) m-plain (view v) (view (status_of s dst v).world)
-    go (Stated.In s) = puts dst (code_of s) refl done
-    go (Stated.Refused f) = done
+    go : (s : Result CoroState Fault) → Worked (may (some p) (some dst) false) m-plain (view v) (view (status_of s dst v).world)
+    go (Ok s) = puts dst (code_of s) refl done
+    go (Err f) = done
 
 pub current-arm : (p dst : ℕ) (v : World) → Arm (may (some p) (some dst) false) v p neither false (coro_current dst v).world
 unfolding coro_current

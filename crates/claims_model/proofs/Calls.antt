@@ -10,7 +10,8 @@ use Rattle.lists.specs.Pick.{pick}
 use Rattle.heap.specs.Word.{nil}
 use Rattle.heap.specs.Table.{Slot}
 use Rattle.heap.specs.declared.fault.Fault.{Fault}
-use Rattle.heap.specs.declared.value.Opt.{Opt}
+use Rattle.std.specs.Prelude.{Result, None, Ok, Err}
+use Rattle.model.specs.declared.coro.Entered.{Entered}
 use Rattle.heap.specs.declared.object.CoroState.{CoroState}
 use Rattle.model.specs.Lists.{is_nil}
 use Rattle.model.specs.State.{is_suspended, is_resumable}
@@ -31,8 +32,6 @@ use Rattle.model.specs.declared.call.Answer.{Answer}
 use Rattle.model.specs.declared.machine.Cont.{Cont}
 use Rattle.model.specs.declared.machine.Driver.{Driver}
 use Rattle.model.specs.declared.machine.Frame.{Frame}
-use Rattle.model.specs.declared.coro.WordOr.{WordOr}
-use Rattle.model.specs.declared.coro.Entered.{Entered}
 use Rattle.model.specs.declared.call.Op.{Op}
 use Rattle.claims_model.specs.Says.{nothing, gets, closes}
 use Rattle.claims_model.specs.Touches.{May, may, may_touch}
@@ -55,9 +54,9 @@ use Rattle.claims_model.proofs.Endings.{Done, d-works, d-returns, finish-done, u
 rest-calm : (v : ℕ) (k : Core) (r s : Rest) (w u : World) → coro w v ≡ Is k r → seen_of (Is k s) ≡ seen_of (Is k r) → u.setup ≡ w.setup → u.stack ≡ w.stack → u.frames ≡ w.frames → u.chain ≡ w.chain → u.slots ≡ (set_coro v k s w).slots → Calm w u
 rest-calm v k r s w u e m a b c d f = record { setup = a; stack = b; frames = c; chain = d; cores = λ x. ap (λ xs. cores xs x) f ∙ set_rest w.slots v e s m x }
 
-made-world : (w : World) (m : WordOr) → (answer_made w m).world ≡ w
-made-world w (WordOr.Word v) = refl
-made-world w (WordOr.Refused f) = refl
+made-world : (w : World) (m : Result ℕ Fault) → (answer_made w m).world ≡ w
+made-world w (Ok v) = refl
+made-world w (Err f) = refl
 
 -- nothing is touched
 abbrev touchless : Option May
@@ -67,7 +66,7 @@ task-worked : (v : ℕ) (w : World) → Worked touchless m-plain (view w) (view 
 unfolding spawn_task pick
 task-worked v w = go (coro w v) refl
   where
-    test : (k : Core) (r : Rest) → coro w v ≡ Is k r → (b : Bool) → Worked touchless m-plain (view w) (view (and_then (pick b (after (set_coro v k (with_task true r) (with_ready (w.ready ++ (v ∷ [])) w)) (WordOr.Word v)) (after w (WordOr.Word v))) answer_made).world)
+    test : (k : Core) (r : Rest) → coro w v ≡ Is k r → (b : Bool) → Worked touchless m-plain (view w) (view (and_then (pick b (after (set_coro v k (with_task true r) (with_ready (w.ready ++ (v ∷ [])) w)) (Ok v)) (after w (Ok v))) answer_made).world)
     test k r e true = calm-worked (rest-calm v k r (with_task true r) w (set_coro v k (with_task true r) (with_ready (w.ready ++ (v ∷ [])) w)) e refl refl refl refl refl refl) done
     test k r e false = done
 
@@ -98,7 +97,7 @@ host-worked : (f : ℕ) (w : World) → Worked (may none none true) m-plain (vie
 unfolding host_call
 host-worked f w = pushed (push_frame f nil Cont.Entry w) (push_case f nil Cont.Entry w)
   where
-    pushed : (o : After WordOr) → PushCase f nil Cont.Entry w o → Worked (may none none true) m-plain (view w) (view (pushed_or w o.world o.answer).world)
+    pushed : (o : After (Result ℕ Fault)) → PushCase f nil Cont.Entry w o → Worked (may none none true) m-plain (view w) (view (pushed_or w o.world o.answer).world)
     pushed o (p-in n) = push-worked f nil Cont.Entry n w refl refl
     pushed o (p-out e) = done
 
@@ -121,7 +120,7 @@ function-worked pc f cont w ok = pushed (allowed-plain w cont (second-true (is_f
     u : World
     u = store_pc pc w
 
-    pushed : is_coro cont ≡ false → (o : After WordOr) → PushCase f nil cont u o → Worked (may (some pc) none true) m-plain (view w) (view (pushed_or w o.world o.answer).world)
+    pushed : is_coro cont ≡ false → (o : After (Result ℕ Fault)) → PushCase f nil cont u o → Worked (may (some pc) none true) m-plain (view w) (view (pushed_or w o.world o.answer).world)
     pushed e o (p-in n) = tops (set_pc pc) (keeps-pc pc) (pc, refl, refl) (push-worked f nil cont n u refl e)
     pushed e o (p-out x) = done
 
@@ -133,12 +132,12 @@ iterator-worked : (v : ℕ) (w : World) → Worked touchless m-plain (view w) (v
 unfolding make_iterator
 iterator-worked v w = go (coro w v)
   where
-    made : After WordOr
-    made = alloc w.setup.costs.iter (Object.Iter v false Opt.None) w
+    made : After (Result ℕ Fault)
+    made = alloc w.setup.costs.iter (Object.Iter v false None) w
 
     go : (y : Coroutine) → Worked touchless m-plain (view w) (view (iterator_over y v w).world)
     go Absent = done
-    go (Is k r) = same-worked (alloc_same w.setup.costs.iter (Object.Iter v false Opt.None) w refl) (subst (λ z. Worked touchless m-plain (view made.world) (view z)) (sym (made-world made.world made.answer)) done)
+    go (Is k r) = same-worked (alloc_same w.setup.costs.iter (Object.Iter v false None) w refl) (subst (λ z. Worked touchless m-plain (view made.world) (view z)) (sym (made-world made.world made.answer)) done)
 
 hand-worked : (v : ℕ) (w : World) → Worked touchless m-plain (view w) (view (hand_over v w).world)
 unfolding hand_over pick
@@ -162,16 +161,16 @@ grant-worked n w = go (grant_too_large n w)
 
 -- ---- host entry
 
-hosted-world : (x : ℕ) (w : World) (e : Entered) → sent_w x w e ≡ (host_arrive x w e).world
-hosted-world x w Entered.Fresh = refl
-hosted-world x w (Entered.Suspended d) = refl
-hosted-world x w (Entered.Refused f) = refl
+hosted-world : (x : ℕ) (w : World) (e : Result Entered Fault) → sent_w x w e ≡ (host_arrive x w e).world
+hosted-world x w (Ok Entered.Fresh) = refl
+hosted-world x w (Ok (Entered.Suspended d)) = refl
+hosted-world x w (Err f) = refl
 
 entry-shape : (c v : ℕ) (w : World) → Shape w (Op.HostEntry c v) (on_host true (host_entry c v) w).world
 unfolding on_host host_entry pick
 entry-shape c v w = go (is_nil w.frames) refl
   where
-    e : After Entered
+    e : After (Result Entered Fault)
     e = coro_enter c Driver.Host w
 
     by : (b : Bool) → is_nil w.frames ≡ b → entry_by (act w (Op.HostEntry c v)) w ≡ pick (not b) nobody (pick (accepts w c) (entry c Driver.Host (sent_to (coro w c) (gets v))) nobody)

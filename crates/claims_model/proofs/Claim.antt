@@ -6,7 +6,7 @@ use mathlib.Core.List.{List, [], ◌∷◌}
 use lib.ListN.{get_or}
 use Rattle.lists.specs.Pick.{pick, pick_true}
 use Rattle.heap.specs.Table.{slot}
-use Rattle.heap.specs.declared.heap.Place.{Place}
+use Rattle.std.specs.Prelude.{Option, Some, None}
 use Rattle.heap.specs.declared.fault.Fault.{Fault}
 use Rattle.heap.specs.declared.object.CoroState.{CoroState}
 use Rattle.model.specs.State.{is_created, is_running, is_resumable}
@@ -69,9 +69,9 @@ absent-at n (f ∷ fs) (suc i) = absent-at (suc n) fs i
 pub fresh-absent : (s : Setup) (c : ℕ) → coro (fresh s) c ≡ Absent
 fresh-absent s c = go (place (fresh s) c)
   where
-    go : (p : Place) → as_coro (object_at (function_objects 0 s.functions) p) ≡ Absent
-    go Place.Nothing = refl
-    go (Place.At i) = absent-at 0 s.functions i
+    go : (p : Option ℕ) → as_coro (object_at (function_objects 0 s.functions) p) ≡ Absent
+    go None = refl
+    go (Some i) = absent-at 0 s.functions i
 
 pub entry-sound : (w : World) (o : Operation) → sound w ≡ true → entry_of w (Do o) ≡ entry_by (act w o.op) w
 entry-sound w o h = ap (λ b. pick b (entry_by (act w o.op) w) nobody) h ∙ pick_true (entry_by (act w o.op) w) nobody

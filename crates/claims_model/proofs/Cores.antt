@@ -16,8 +16,7 @@ use borrow.Author.Tests.{eqb-true, ltb-true, ltb-false, lt-ltb, le-ltb, eq-eqb, 
 use Rattle.lists.specs.Pick.{pick, pick_true, pick-false}
 use Rattle.heap.specs.Word.{nil, slot_of, tag_of, top_of}
 use Rattle.heap.specs.Table.{Slot, slot, get, put_object, push_object}
-use Rattle.heap.specs.declared.heap.Place.{Place}
-use Rattle.heap.specs.declared.value.Opt.{Opt}
+use Rattle.std.specs.Prelude.{Option, Some, None}
 use Rattle.heap.specs.declared.object.CoroState.{CoroState}
 use Rattle.model.specs.State.{is_created, is_running, is_suspended}
 use Rattle.model.specs.Object.{Core, Rest, Object, is_filled, Coroutine, Is, as_coro}
@@ -48,7 +47,7 @@ Reads v = (xs : List (Slot Object)) → object_in xs v ≡ pick (names_in xs v) 
 abbrev pub Lookup : ℕ → Type 0
 Lookup v = ((top_of v ≡ 1) × Reads v) ⊎ ((xs : List (Slot Object)) → object_in xs v ≡ Object.Empty)
 
-pick-object : (b : Bool) (xs : List (Slot Object)) (i : ℕ) → object_at xs (pick b (Place.At i) Place.Nothing) ≡ pick b (find xs i).object Object.Empty
+pick-object : (b : Bool) (xs : List (Slot Object)) (i : ℕ) → object_at xs (pick b (Some i) None) ≡ pick b (find xs i).object Object.Empty
 unfolding pick
 pick-object true xs i = refl
 pick-object false xs i = refl
@@ -237,7 +236,7 @@ module _ (xs : List (Slot Object)) (v : ℕ) {k : Core} {r : Rest} (e : coro_in 
       go (no q) = set_other k r' u q
 
 -- an iterator replaced
-pub set-iter : (xs : List (Slot Object)) (v : ℕ) (s : ℕ) (d d' : Bool) (o o' : Opt) → object_in xs v ≡ Object.Iter s d o → (u : ℕ) → cores (put_object Object.Empty xs (slot_of v) (Object.Iter s d' o')) u ≡ cores xs u
+pub set-iter : (xs : List (Slot Object)) (v : ℕ) (s : ℕ) (d d' : Bool) (o o' : Option ℕ) → object_in xs v ≡ Object.Iter s d o → (u : ℕ) → cores (put_object Object.Empty xs (slot_of v) (Object.Iter s d' o')) u ≡ cores xs u
 set-iter xs v s d d' o o' e u = go (ℕ_discrete u v)
   where
     n : Named xs v

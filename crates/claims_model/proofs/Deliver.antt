@@ -18,14 +18,11 @@ use Rattle.model.specs.Heap.{coro, dyn_int, fits}
 use Rattle.model.specs.Coro as Coro
 use Rattle.model.specs.Coro.{saved, sized, growth, set_keys, unclose, suspend_coroutine, suspend_innermost, coro_suspend, deliver, deliver_return}
 use Rattle.model.specs.Sound.{marked}
-use Rattle.model.specs.Machine.{is_ok}
 use Rattle.model.specs.Exec.{delivered, deliver_all, suspend, largest_in, auto_key, yield_key, yield_on, yield, larger_of, yield_kv_on, yield_kv, await_on, await}
 use Rattle.model.specs.declared.machine.Driver.{Driver}
 use Rattle.model.specs.declared.machine.Active.{Active}
 use Rattle.model.specs.declared.coro.Event as M
-use Rattle.model.specs.declared.coro.Keys.{Keys}
-use Rattle.model.specs.declared.coro.AutoKey.{AutoKey}
-use Rattle.model.specs.declared.coro.Suspension.{Suspension}
+use Rattle.std.specs.Prelude.{Option, Result, Some, None, Ok, Err}
 use Rattle.model.specs.declared.exec.Step.{Step}
 use Rattle.model.specs.declared.call.Op.{Op}
 use Rattle.claims_model.specs.Touches.{may}
@@ -74,17 +71,17 @@ return-told Driver.Finalize x w = record { setup = refl; under = refl; chain = r
 
 -- ---- coro_suspend
 
-pub data SuspendCase (s : CoroState) (dst x : ℕ) (keys : Keys) (t : World) : After Suspension → Type 0 where
+pub data SuspendCase (s : CoroState) (dst x : ℕ) (keys : Option (ℕ × ℕ)) (t : World) : After (Result (Driver × M.Event) Fault) → Type 0 where
   z-in : (a : Active) (chain : List Active) (k : Core) (r : Rest) → t.chain ≡ a ∷ chain → coro t a.coro ≡ Is k r
-      → SuspendCase s dst x keys t (after (Coro.put_to_sleep a chain (saved s dst a.floor t) x keys r t) (Suspension.Done a.driver (Coro.event_of s x (set_keys keys r))))
-  z-out : (f : Fault) → SuspendCase s dst x keys t (after t (Suspension.Refused f))
+      → SuspendCase s dst x keys t (after (Coro.put_to_sleep a chain (saved s dst a.floor t) x keys r t) (Ok (a.driver, Coro.event_of s x (set_keys keys r))))
+  z-out : (f : Fault) → SuspendCase s dst x keys t (after t (Err f))
 
-pub suspend-case : (s : CoroState) (dst x : ℕ) (keys : Keys) (t : World) → SuspendCase s dst x keys t (coro_suspend s dst x keys t)
+pub suspend-case : (s : CoroState) (dst x : ℕ) (keys : Option (ℕ × ℕ)) (t : World) → SuspendCase s dst x keys t (coro_suspend s dst x keys t)
 unfolding coro_suspend pick
 suspend-case s dst x keys t = go t.chain refl
   where
     fit : (a : Active) (chain : List Active) (k : Core) (r : Rest) → t.chain ≡ a ∷ chain → coro t a.coro ≡ Is k r → (b : Bool)
-        → SuspendCase s dst x keys t (pick b (after t (Suspension.Refused Fault.OutOfMemory)) (after (Coro.put_to_sleep a chain (saved s dst a.floor t) x keys r t) (Suspension.Done a.driver (Coro.event_of s x (set_keys keys r)))))
+        → SuspendCase s dst x keys t (pick b (after t (Err Fault.OutOfMemory)) (after (Coro.put_to_sleep a chain (saved s dst a.floor t) x keys r t) (Ok (a.driver, Coro.event_of s x (set_keys keys r)))))
     fit a chain k r e h true = z-out Fault.OutOfMemory
     fit a chain k r e h false = z-in a chain k r e h
 
@@ -92,7 +89,7 @@ suspend-case s dst x keys t = go t.chain refl
     there a chain e Absent h = z-out Fault.TypeError
     there a chain e (Is k r) h = fit a chain k r e h (not (fits t (growth t (saved s dst a.floor t) r)))
 
-    deep : (a : Active) (chain : List Active) → t.chain ≡ a ∷ chain → (b : Bool) → SuspendCase s dst x keys t (pick b (after t (Suspension.Refused Fault.CannotSuspend)) (suspend_coroutine (coro t a.coro) a chain (saved s dst a.floor t) x keys t))
+    deep : (a : Active) (chain : List Active) → t.chain ≡ a ∷ chain → (b : Bool) → SuspendCase s dst x keys t (pick b (after t (Err Fault.CannotSuspend)) (suspend_coroutine (coro t a.coro) a chain (saved s dst a.floor t) x keys t))
     deep a chain e true = z-out Fault.CannotSuspend
     deep a chain e false = there a chain e (coro t a.coro) refl
 
@@ -100,9 +97,9 @@ suspend-case s dst x keys t = go t.chain refl
     go [] e = z-out Fault.CannotSuspend
     go (a ∷ chain) e = deep a chain e (leb (length t.frames) a.floor)
 
-pub keys-closing : (keys : Keys) (r : Rest) → (set_keys keys r).closing ≡ r.closing
-keys-closing Keys.Keep r = refl
-keys-closing (Keys.Set key largest) r = refl
+pub keys-closing : (keys : Option (ℕ × ℕ)) (r : Rest) → (set_keys keys r).closing ≡ r.closing
+keys-closing None r = refl
+keys-closing (Some (key, largest)) r = refl
 
 -- a yield ends a closing
 unclosed-by : (await closing : Bool) (r : Rest) → r.closing ≡ closing → closing_of (pick (not await && closing) (with_closing false (with_signal nil r)) r) ≡ pick await (closing_of r) none
@@ -111,9 +108,9 @@ unclosed-by true b r e = refl
 unclosed-by false true r e = refl
 unclosed-by false false r e = ap (λ b. pick b (some r.signal) none) e
 
-unclosed : (s : CoroState) (keys : Keys) (r : Rest) → closing_of (unclose s (set_keys keys r)) ≡ pick (is_awaiting s) (closing_of r) none
-unclosed s Keys.Keep r = unclosed-by (is_awaiting s) r.closing r refl
-unclosed s (Keys.Set key largest) r = unclosed-by (is_awaiting s) r.closing (set_keys (Keys.Set key largest) r) refl
+unclosed : (s : CoroState) (keys : Option (ℕ × ℕ)) (r : Rest) → closing_of (unclose s (set_keys keys r)) ≡ pick (is_awaiting s) (closing_of r) none
+unclosed s None r = unclosed-by (is_awaiting s) r.closing r refl
+unclosed s (Some (key, largest)) r = unclosed-by (is_awaiting s) r.closing (set_keys (Some (key, largest)) r) refl
 
 pick-told : (a b : Bool) (x key : ℕ) → told (pick a (M.Event.Awaiting x) (pick b M.Event.CloseIgnored (M.Event.Yielded x key))) ≡ pick a (Awaits x) (pick b Ignores (Yields x))
 unfolding pick
@@ -121,24 +118,21 @@ pick-told true b x key = refl
 pick-told false true x key = refl
 pick-told false false x key = refl
 
-told-event : (s : CoroState) (x : ℕ) (keys : Keys) (r : Rest) → told (Coro.event_of s x (set_keys keys r)) ≡ event_as r.closing s x
+told-event : (s : CoroState) (x : ℕ) (keys : Option (ℕ × ℕ)) (r : Rest) → told (Coro.event_of s x (set_keys keys r)) ≡ event_as r.closing s x
 told-event s x keys r = pick-told (is_awaiting s) (set_keys keys r).closing x (set_keys keys r).key ∙ ap (λ b. pick (is_awaiting s) (Awaits x) (pick b Ignores (Yields x))) (keys-closing keys r)
 
-told-world : (w : World) (f : Fault) → (delivered w f).world ≡ w
-told-world w f = go (is_ok f)
-  where
-    go : (b : Bool) → (pick b (after w Step.Frame) (after w (Step.Unwind f))).world ≡ w
-    go true = ap (λ (o : After Step). o.world) (pick_true (after w Step.Frame) (after w (Step.Unwind f)))
-    go false = ap (λ (o : After Step). o.world) (pick-false (after w Step.Frame) (after w (Step.Unwind f)))
+told-world : (w : World) (r : Result Unit Fault) → (delivered w r).world ≡ w
+told-world w (Ok u) = refl
+told-world w (Err f) = refl
 
 -- a suspension at v, the key's object made before it at u
-pub suspend-arm : (p : ℕ) (s : CoroState) → is_suspended s ≡ true → (dst x : ℕ) (keys : Keys) (v u : World) → Same v u → Arm (may (some p) none false) v p (suspends s dst x) (tries p s dst x u keys) (suspend p s dst x keys u).world
+pub suspend-arm : (p : ℕ) (s : CoroState) → is_suspended s ≡ true → (dst x : ℕ) (keys : Option (ℕ × ℕ)) (v u : World) → Same v u → Arm (may (some p) none false) v p (suspends s dst x) (tries p s dst x u keys) (suspend p s dst x keys u).world
 suspend-arm p s h dst x keys v u g = go (coro_suspend s dst x keys t) (suspend-case s dst x keys t)
   where
     t : World
     t = store_pc p u
 
-    go : (o : After Suspension) → SuspendCase s dst x keys t o → Arm (may (some p) none false) v p (suspends s dst x) (taken o.answer) (deliver_all o.world o.answer).world
+    go : (o : After (Result (Driver × M.Event) Fault)) → SuspendCase s dst x keys t o → Arm (may (some p) none false) v p (suspends s dst x) (taken o.answer) (deliver_all o.world o.answer).world
     go o (z-out f) = a-works refl refl (same-worked g (tops (set_pc p) (keeps-pc p) (p, refl, refl) done))
     go o (z-in a chain k r e c) = a-suspends refl s dst x a chain refl (subst (Suspend v p s dst x a chain) (sym (told-world (deliver a.driver m y).world (deliver a.driver m y).answer)) it)
       where
@@ -186,12 +180,12 @@ pub yield-arm : (p dst src : ℕ) (v : World) → Arm (may (some p) none false) 
 unfolding yield
 yield-arm p dst src v = go v.chain
   where
-    made : (o : After AutoKey) → Same v o.world → Arm (may (some p) none false) v p (suspends CoroState.Yielded dst (reg v src)) (keyed (tries p CoroState.Yielded dst (reg v src)) o.world o.answer) (yield_key p dst (reg v src) o.world o.answer).world
+    made : (o : After (Result (ℕ × ℕ) Fault)) → Same v o.world → Arm (may (some p) none false) v p (suspends CoroState.Yielded dst (reg v src)) (keyed (tries p CoroState.Yielded dst (reg v src)) o.world o.answer) (yield_key p dst (reg v src) o.world o.answer).world
     made o g = cases o.answer
       where
-        cases : (k : AutoKey) → Arm (may (some p) none false) v p (suspends CoroState.Yielded dst (reg v src)) (keyed (tries p CoroState.Yielded dst (reg v src)) o.world k) (yield_key p dst (reg v src) o.world k).world
-        cases (AutoKey.Key key largest) = suspend-arm p CoroState.Yielded refl dst (reg v src) (Keys.Set key largest) v o.world g
-        cases (AutoKey.Refused f) = a-works refl refl (same-worked g done)
+        cases : (k : Result (ℕ × ℕ) Fault) → Arm (may (some p) none false) v p (suspends CoroState.Yielded dst (reg v src)) (keyed (tries p CoroState.Yielded dst (reg v src)) o.world k) (yield_key p dst (reg v src) o.world k).world
+        cases (Ok (key, largest)) = suspend-arm p CoroState.Yielded refl dst (reg v src) (Some (key, largest)) v o.world g
+        cases (Err f) = a-works refl refl (same-worked g done)
 
     go : (cs : List Active)
         → Arm (may (some p) none false) v p (suspends CoroState.Yielded dst (reg v src)) (in_body cs (λ a. keyed (tries p CoroState.Yielded dst (reg v src)) (auto_key (largest_in (coro v a.coro)) v).world (auto_key (largest_in (coro v a.coro)) v).answer)) (yield_on cs p dst src v).world
@@ -202,8 +196,8 @@ pub yield_kv-arm : (p dst src key : ℕ) (v : World) → Arm (may (some p) none 
 unfolding yield_kv
 yield_kv-arm p dst src key v = go v.chain
   where
-    keys : Active → Keys
-    keys a = Keys.Set (reg v key) (larger_of (largest_in (coro v a.coro)) (dyn_int v (reg v key)))
+    keys : Active → Option (ℕ × ℕ)
+    keys a = Some (reg v key, larger_of (largest_in (coro v a.coro)) (dyn_int v (reg v key)))
 
     go : (cs : List Active) → Arm (may (some p) none false) v p (suspends CoroState.Yielded dst (reg v src)) (in_body cs (λ a. tries p CoroState.Yielded dst (reg v src) v (keys a))) (yield_kv_on cs p dst src key v).world
     go [] = a-works refl refl done
@@ -213,6 +207,6 @@ pub await-arm : (p dst src : ℕ) (v : World) → Arm (may (some p) none false) 
 unfolding await
 await-arm p dst src v = go v.chain
   where
-    go : (cs : List Active) → Arm (may (some p) none false) v p (suspends CoroState.Awaiting dst (reg v src)) (in_body cs (λ a. tries p CoroState.Awaiting dst (reg v src) v Keys.Keep)) (await_on cs p dst src v).world
+    go : (cs : List Active) → Arm (may (some p) none false) v p (suspends CoroState.Awaiting dst (reg v src)) (in_body cs (λ a. tries p CoroState.Awaiting dst (reg v src) v None)) (await_on cs p dst src v).world
     go [] = a-works refl refl done
-    go (a ∷ chain) = suspend-arm p CoroState.Awaiting refl dst (reg v src) Keys.Keep v v same_none
+    go (a ∷ chain) = suspend-arm p CoroState.Awaiting refl dst (reg v src) None v v same_none

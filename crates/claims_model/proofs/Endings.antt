@@ -11,7 +11,7 @@ use Rattle.lists.specs.Pick.{pick}
 use Rattle.heap.specs.Word.{nil}
 use Rattle.heap.specs.Fault.{number_of, word_of}
 use Rattle.heap.specs.declared.fault.Fault.{Fault}
-use Rattle.heap.specs.declared.value.Opt.{Opt}
+use Rattle.std.specs.Prelude.{Option, Result, Some, None, Ok, Err}
 use Rattle.heap.specs.declared.object.CoroState.{CoroState}
 use Rattle.model.specs.State.{is_created, is_returned}
 use Rattle.model.specs.Program.{func, first_of}
@@ -20,19 +20,16 @@ use Rattle.model.specs.Frames.{is_coro, step_pc, set_pc, top_func, top_pc, put_r
 use Rattle.model.specs.Heap.{coro, alloc, to_dyn}
 use Rattle.model.specs.Coro.{finish_coroutine, in_state, ended, deliver_return, returned_on, coro_returned, closed_by, fail_to, escaped_on, coro_escaped, fail_all, abort_coros}
 use Rattle.model.specs.Cleanup.{charge}
-use Rattle.model.specs.Machine.{result_of, or_nil, write_result, write_made, apply_cont, is_ok, resume_in, return_made, finish_as, finish_on, finish, caught, stop_or, escape, search_as, search, search_frames, search_made, error_of, unwind_fault, store_some, unwind, raisable}
+use Rattle.model.specs.Machine.{result_of, or_nil, write_result, write_made, apply_cont, resume_in, return_made, finish_as, finish_on, finish, caught, stop_or, escape, search_as, search, search_frames, search_made, error_of, unwind_fault, store_some, unwind, raisable}
 use Rattle.model.specs.Added.{stop_run}
 use Rattle.model.specs.declared.program.Handler.{Handler}
-use Rattle.model.specs.declared.program.Caught.{Caught}
 use Rattle.model.specs.declared.machine.Cont.{Cont}
 use Rattle.model.specs.declared.machine.Driver.{Driver}
 use Rattle.model.specs.declared.machine.Active.{Active}
 use Rattle.model.specs.declared.machine.Frame.{Frame}
 use Rattle.model.specs.declared.machine.Stop.{Stop}
 use Rattle.model.specs.declared.machine.Charge.{Charge}
-use Rattle.model.specs.declared.coro.WordOr.{WordOr}
 use Rattle.heap.specs.declared.heap.ResultKind.{ResultKind}
-use Rattle.model.specs.declared.call.OptPc.{OptPc}
 use Rattle.model.specs.declared.call.Answer.{Answer}
 use Rattle.claims_model.specs.Delivery.{recorded}
 use Rattle.claims_model.proofs.Held.{Seat, core_at, Returns, mem, deliver_to, made_word}
@@ -97,13 +94,9 @@ return-done x f fs w a chain p q r =
 
 -- ---- finish
 
-resume-worked : (w : World) (f : Fault) → Worked none m-ending (view w) (view (resume_in w f).world)
-unfolding pick
-resume-worked w f = go (is_ok f)
-  where
-    go : (b : Bool) → Worked none m-ending (view w) (view (pick b (after (next_pc w) Answer.Resume) (after w (Answer.Refused f))).world)
-    go true = tops step_pc keeps-step tt done
-    go false = done
+resume-worked : (w : World) (r : Result Unit Fault) → Worked none m-ending (view w) (view (resume_in w r).world)
+resume-worked w (Ok u) = tops step_pc keeps-step tt done
+resume-worked w (Err f) = done
 
 -- the chain is empty, or the body's coroutine returns
 returned-done : (x : ℕ) (f : Frame) (fs : List Frame) (w : World) → w.frames ≡ f ∷ fs → is_coro f.cont ≡ true → Done x (view w) (coro_returned x (pop_to f fs w))
@@ -118,33 +111,33 @@ pub finish-done : (kind : ResultKind) (v : ℕ) (w : World) → Done (made_word 
 unfolding finish apply_cont
 finish-done kind v w = go w.frames refl
   where
-    made : After WordOr
+    made : After (Result ℕ Fault)
     made = to_dyn kind v w
 
-    written : (dst : ℕ) (u : World) (r : Opt) → Worked none m-ending (view u) (view (write_result dst r u))
-    written dst u Opt.None = done
-    written dst u (Opt.Some x) = puts dst x tt done
+    written : (dst : ℕ) (u : World) (r : Option ℕ) → Worked none m-ending (view u) (view (write_result dst r u))
+    written dst u None = done
+    written dst u (Some x) = puts dst x tt done
 
-    writing : (dst : ℕ) (u : World) (r : Opt) {z : View} → Worked none m-ending (view (write_result dst r u)) z → Worked none m-ending (view u) z
-    writing dst u Opt.None t = t
-    writing dst u (Opt.Some x) t = puts dst x tt t
+    writing : (dst : ℕ) (u : World) (r : Option ℕ) {z : View} → Worked none m-ending (view (write_result dst r u)) z → Worked none m-ending (view u) z
+    writing dst u None t = t
+    writing dst u (Some x) t = puts dst x tt t
 
-    dyn : (dst : ℕ) (u : World) (m : WordOr) → Worked none m-ending (view u) (view (resume_in (write_made dst u m).world (write_made dst u m).answer).world)
-    dyn dst u (WordOr.Word x) = puts dst x tt (resume-worked (put_reg dst x u) Fault.None)
-    dyn dst u (WordOr.Refused f) = resume-worked u f
+    dyn : (dst : ℕ) (u : World) (m : Result ℕ Fault) → Worked none m-ending (view u) (view (resume_in (write_made dst u m).world (write_made dst u m).answer).world)
+    dyn dst u (Ok x) = puts dst x tt (resume-worked (put_reg dst x u) (Ok tt))
+    dyn dst u (Err f) = resume-worked u (Err f)
 
-    body : (f : Frame) (fs : List Frame) → w.frames ≡ f ∷ fs → is_coro f.cont ≡ true → (m : WordOr) → made.answer ≡ m → Done (made_word made.answer) (view made.world) (return_made f fs made.world m).world
-    body f fs p q (WordOr.Word x) e = subst (λ y. Done y (view made.world) (coro_returned x (pop_to f fs made.world))) (sym (ap made_word e)) (returned-done x f fs made.world ((dyn-same kind v w).frames ∙ p) q)
-    body f fs p q (WordOr.Refused y) e = d-works done
+    body : (f : Frame) (fs : List Frame) → w.frames ≡ f ∷ fs → is_coro f.cont ≡ true → (m : Result ℕ Fault) → made.answer ≡ m → Done (made_word made.answer) (view made.world) (return_made f fs made.world m).world
+    body f fs p q (Ok x) e = subst (λ y. Done y (view made.world) (coro_returned x (pop_to f fs made.world))) (sym (ap made_word e)) (returned-done x f fs made.world ((dyn-same kind v w).frames ∙ p) q)
+    body f fs p q (Err y) e = d-works done
 
     top : (f : Frame) (fs : List Frame) → w.frames ≡ f ∷ fs → (c : Cont) → f.cont ≡ c → Done (made_word made.answer) (view w) (finish_as c f fs kind v w).world
     top f fs p Cont.Entry q = d-works (pops f fs refl p (inl (ap is_coro q)) done)
-    top f fs p (Cont.Write dst) q = d-works (pops f fs refl p (inl (ap is_coro q)) (writing dst (pop_to f fs w) (result_of kind v) (resume-worked (write_result dst (result_of kind v) (pop_to f fs w)) Fault.None)))
+    top f fs p (Cont.Write dst) q = d-works (pops f fs refl p (inl (ap is_coro q)) (writing dst (pop_to f fs w) (result_of kind v) (resume-worked (write_result dst (result_of kind v) (pop_to f fs w)) (Ok tt))))
     top f fs p (Cont.Dyn dst) q =
         let o = to_dyn kind v (pop_to f fs w) in
         d-works (pops f fs refl p (inl (ap is_coro q)) (same-worked (dyn-same kind v (pop_to f fs w)) (dyn dst o.world o.answer)))
-    top f fs p (Cont.Value dst) q = d-works (pops f fs refl p (inl (ap is_coro q)) (puts dst (or_nil (result_of kind v)) tt (resume-worked (put_reg dst (or_nil (result_of kind v)) (pop_to f fs w)) Fault.None)))
-    top f fs p Cont.Discard q = d-works (pops f fs refl p (inl (ap is_coro q)) (resume-worked (pop_to f fs w) Fault.None))
+    top f fs p (Cont.Value dst) q = d-works (pops f fs refl p (inl (ap is_coro q)) (puts dst (or_nil (result_of kind v)) tt (resume-worked (put_reg dst (or_nil (result_of kind v)) (pop_to f fs w)) (Ok tt))))
+    top f fs p Cont.Discard q = d-works (pops f fs refl p (inl (ap is_coro q)) (resume-worked (pop_to f fs w) (Ok tt)))
     top f fs p Cont.Coro q = then-done (λ y t. same-worked (dyn-same kind v w) t) (body f fs p (ap is_coro q) made.answer refl)
 
     go : (fs : List Frame) → w.frames ≡ fs → Done (made_word made.answer) (view w) (finish_on fs kind v w).world
@@ -206,33 +199,33 @@ module _ (value f pc : ℕ) where
   handled h w Charge.Spent = done
   handled h w (Charge.Close n) = tops (set_pc h.target) (keeps-pc h.target) tt (puts h.catch value tt done)
 
-  looked : (x : Frame) (xs : List Frame) → Next xs → (w : World) → w.frames ≡ x ∷ xs → (c : Caught) → Done nil (view w) (search_as c x xs value f pc (search xs value f pc) w).world
-  looked x xs next w p Caught.Nothing = leaving x xs next w p x.cont refl
-  looked x xs next w p (Caught.By h) = d-works (same-worked (charge-none w) (handled h (charge OptPc.None w).world (charge OptPc.None w).answer))
+  looked : (x : Frame) (xs : List Frame) → Next xs → (w : World) → w.frames ≡ x ∷ xs → (c : Option Handler) → Done nil (view w) (search_as c x xs value f pc (search xs value f pc) w).world
+  looked x xs next w p None = leaving x xs next w p x.cont refl
+  looked x xs next w p (Some h) = d-works (same-worked (charge-none w) (handled h (charge None w).world (charge None w).answer))
 
   search-done : (fs : List Frame) → Next fs
   search-done [] w p = d-works done
   search-done (x ∷ xs) w p = looked x xs (search-done xs) w p (first_of x.pc (func w.setup x.func).handlers)
 
-pub unwind-done : (f : Fault) (pc : OptPc) (w : World) → Done nil (view w) (unwind f pc w).world
+pub unwind-done : (f : Fault) (pc : Option ℕ) (w : World) → Done nil (view w) (unwind f pc w).world
 unfolding unwind pick
 unwind-done f pc w = valid (raisable f)
   where
     frames : (value : ℕ) (u : World) → Done nil (view u) (search_frames value u).world
     frames value u = search-done value (top_func u.frames) (top_pc u.frames) u.frames u refl
 
-    made : (u : World) (m : WordOr) → Done nil (view u) (search_made u m).world
-    made u (WordOr.Word x) = frames x u
-    made u (WordOr.Refused e) = d-works done
+    made : (u : World) (m : Result ℕ Fault) → Done nil (view u) (search_made u m).world
+    made u (Ok x) = frames x u
+    made u (Err e) = d-works done
 
     kinds : (u : World) (a b : Bool) → Done nil (view u) (pick a (search_frames (word_of f) u) (pick b (and_then (alloc u.setup.costs.error (error_of f u) u) search_made) (after u (Answer.Refused f)))).world
     kinds u true b = frames (word_of f) u
     kinds u false true = let o = alloc u.setup.costs.error (error_of f u) u in then-done (λ y t. same-worked (alloc_same u.setup.costs.error (error_of f u) u refl) t) (made o.world o.answer)
     kinds u false false = d-works done
 
-    store : (p : OptPc) → Done nil (view w) (unwind_fault f (store_some p w)).world
-    store OptPc.None = kinds w (eqb (number_of f) 17) (leb (number_of f) 8)
-    store (OptPc.Some p) = then-done (λ y t. tops (set_pc p) (keeps-pc p) tt t) (kinds (store_pc p w) (eqb (number_of f) 17) (leb (number_of f) 8))
+    store : (p : Option ℕ) → Done nil (view w) (unwind_fault f (store_some p w)).world
+    store None = kinds w (eqb (number_of f) 17) (leb (number_of f) 8)
+    store (Some p) = then-done (λ y t. tops (set_pc p) (keeps-pc p) tt t) (kinds (store_pc p w) (eqb (number_of f) 17) (leb (number_of f) 8))
 
     valid : (b : Bool) → Done nil (view w) (pick b (unwind_fault f (store_some pc w)) (after w (Answer.Refused Fault.Unsound))).world
     valid true = store pc

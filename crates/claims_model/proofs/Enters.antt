@@ -24,9 +24,9 @@ use Rattle.model.specs.Cleanup.{coro_suspended, is_entered, close, started, star
 use Rattle.model.specs.declared.machine.Driver.{Driver}
 use Rattle.model.specs.declared.machine.Frame.{Frame}
 use Rattle.model.specs.declared.machine.Charge.{Charge}
+use Rattle.std.specs.Prelude.{Result, Some, None, Ok, Err}
 use Rattle.model.specs.declared.coro.Entered.{Entered}
 use Rattle.model.specs.declared.coro.Started.{Started}
-use Rattle.model.specs.declared.call.OptPc.{OptPc}
 use Rattle.claims_model.specs.Says.{Sent, nothing, gets, closes}
 use Rattle.claims_model.specs.Held.{closed_by}
 use Rattle.claims_model.proofs.Entry.{nobody, entry, accepts_as, accepts, cleaned}
@@ -37,10 +37,10 @@ use Rattle.claims_model.proofs.Quiet.{Same, Calm}
 
 -- ---- coro_enter accepts, or leaves all as it was
 
-pub data EnterCase (v : ℕ) (d : Driver) (u : World) : After Entered → Type 0 where
+pub data EnterCase (v : ℕ) (d : Driver) (u : World) : After (Result Entered Fault) → Type 0 where
   e-in : (k : Core) (r : Rest) → coro u v ≡ Is k r → accepts u v ≡ true → is_resumable k.state ≡ true → is_nil k.frames ≡ false
-      → EnterCase v d u (after (entered v d k r u) (pick (is_created k.state) Entered.Fresh (Entered.Suspended k.waiting)))
-  e-out : (f : Fault) → accepts u v ≡ false → EnterCase v d u (after u (Entered.Refused f))
+      → EnterCase v d u (after (entered v d k r u) (pick (is_created k.state) (Ok Entered.Fresh) (Ok (Entered.Suspended k.waiting))))
+  e-out : (f : Fault) → accepts u v ≡ false → EnterCase v d u (after u (Err f))
 
 pub enter-case : (v : ℕ) (d : Driver) (u : World) → EnterCase v d u (coro_enter v d u)
 unfolding coro_enter pick
@@ -51,7 +51,7 @@ enter-case v d u = go (coro u v) refl
     go (Is k r) e = tests (is_resumable k.state) (is_nil k.frames) (overflows k u) refl refl refl
       where
         tests : (a b c : Bool) → is_resumable k.state ≡ a → is_nil k.frames ≡ b → overflows k u ≡ c
-            → EnterCase v d u (pick (not a || b) (after u (Entered.Refused Fault.InvalidCoroState)) (pick c (after u (Entered.Refused Fault.StackOverflow)) (after (entered v d k r u) (pick (is_created k.state) Entered.Fresh (Entered.Suspended k.waiting)))))
+            → EnterCase v d u (pick (not a || b) (after u (Err Fault.InvalidCoroState)) (pick c (after u (Err Fault.StackOverflow)) (after (entered v d k r u) (pick (is_created k.state) (Ok Entered.Fresh) (Ok (Entered.Suspended k.waiting))))))
         tests false b c p q o = e-out Fault.InvalidCoroState (ap (λ x. accepts_as x u) e ∙ rw p)
         tests true true c p q o = e-out Fault.InvalidCoroState (ap (λ x. accepts_as x u) e ∙ rw (p, q))
         tests true false true p q o = e-out Fault.StackOverflow (ap (λ x. accepts_as x u) e ∙ rw (p, q, o))
@@ -195,7 +195,7 @@ pub data StartCase (p : ℕ) (w u : World) (q : List ℕ) : After Started → Ty
   s-some : (c n : ℕ) (z : World) → cleaned q u ≡ entry c Driver.Finalize (closes nil) → Enter w p c Driver.Finalize (closes nil) z → StartCase p w u q (after z (started true n))
   s-none : (n : ℕ) (v : World) → cleaned q u ≡ nobody → Stored p w v → StartCase p w u q (after v (started false n))
 
-pub is-in : (b : Bool) (x : ℕ) → is_entered (pick b Entered.Fresh (Entered.Suspended x)) ≡ true
+pub is-in : (b : Bool) (x : ℕ) → is_entered (pick b (Ok Entered.Fresh) (Ok (Entered.Suspended x))) ≡ true
 unfolding pick
 is-in true x = refl
 is-in false x = refl
@@ -225,7 +225,7 @@ start-case p w u s n (c ∷ q) = go (coro_enter c Driver.Finalize (with_finalize
     choose a false x y e h f g = subst (StartCase p w u (c ∷ q)) (sym (pick-false x y)) (later y g
         (ap (λ b. pick (coro_suspended (coro u c) && b) (entry c Driver.Finalize (closes nil)) (cleaned q u)) h ∙ ap (λ b. pick b (entry c Driver.Finalize (closes nil)) (cleaned q u)) e ∙ pick-false (entry c Driver.Finalize (closes nil)) (cleaned q u)))
 
-    go : (e : After Entered) → EnterCase c Driver.Finalize v e → StartCase p w u q (start_from (suc n) q u)
+    go : (e : After (Result Entered Fault)) → EnterCase c Driver.Finalize v e → StartCase p w u q (start_from (suc n) q u)
         → StartCase p w u (c ∷ q) (pick (coro_suspended (coro u c) && is_entered e.answer) (after (set_finalizing true (change_coro c (λ k. k) (close nil) e.world)) (started true (suc n))) (start_from (suc n) q u))
     go e (e-out f h) g = choose false (coro_suspended (coro u c) && false) _ _ refl (sym (same (coro u c)) ∙ h) (λ b. no_both (and_right (coro_suspended (coro u c)) false b) refl) g
     go e (e-in k r h a b m) g =
@@ -250,7 +250,7 @@ pub data ChargeCase (p : ℕ) (w : World) : After Charge → Type 0 where
   c-spent : (v : World) → Ready p w v → ChargeCase p w (after v Charge.Spent)
   c-close : (n c : ℕ) (z : World) → cleaned w.finalize w ≡ entry c Driver.Finalize (closes nil) → Enter w p c Driver.Finalize (closes nil) z → ChargeCase p w (after z (Charge.Close n))
 
-pub charge-case : (p : ℕ) (w : World) → ChargeCase p w (charge (OptPc.Some p) w)
+pub charge-case : (p : ℕ) (w : World) → ChargeCase p w (charge (Some p) w)
 unfolding charge charge_slow start_finalizer pick
 charge-case p w = fast (eqb w.fuel.fuel 0)
   where
@@ -268,23 +268,23 @@ charge-case p w = fast (eqb w.fuel.fuel 0)
     ready true = start (start_from 0 w.finalize u) (start-case p w u su 0 w.finalize)
     ready false = c-done 0 (arm_close (spend (unbank w))) (r-same refl refl refl refl refl refl)
 
-    slow : (b : Bool) → ChargeCase p w (pick b (after (unbank w) Charge.Spent) (charge_at (OptPc.Some p) (unbank w)))
+    slow : (b : Bool) → ChargeCase p w (pick b (after (unbank w) Charge.Spent) (charge_at (Some p) (unbank w)))
     slow true = c-spent (unbank w) (r-same refl refl refl refl refl refl)
     slow false = ready (unbank w).fuel.ready
 
-    fast : (b : Bool) → ChargeCase p w (pick b (charge_slow (OptPc.Some p) w) (after (spend w) (Charge.Done 0)))
+    fast : (b : Bool) → ChargeCase p w (pick b (charge_slow (Some p) w) (after (spend w) (Charge.Done 0)))
     fast true = slow (eqb (unbank w).fuel.fuel 0)
     fast false = c-done 0 (spend w) (r-same refl refl refl refl refl refl)
 
 -- without a pc nothing is touched but fuel
-pub charge-none : (w : World) → Same w (charge OptPc.None w).world
+pub charge-none : (w : World) → Same w (charge None w).world
 unfolding charge charge_slow pick
 charge-none w = fast (eqb w.fuel.fuel 0)
   where
-    slow : (b : Bool) → Same w (pick b (after (unbank w) Charge.Spent) (charge_at OptPc.None (unbank w))).world
+    slow : (b : Bool) → Same w (pick b (after (unbank w) Charge.Spent) (charge_at None (unbank w))).world
     slow true = record { setup = refl; stack = refl; frames = refl; chain = refl; coros = λ c. refl }
     slow false = record { setup = refl; stack = refl; frames = refl; chain = refl; coros = λ c. refl }
 
-    fast : (b : Bool) → Same w (pick b (charge_slow OptPc.None w) (after (spend w) (Charge.Done 0))).world
+    fast : (b : Bool) → Same w (pick b (charge_slow None w) (after (spend w) (Charge.Done 0))).world
     fast true = slow (eqb (unbank w).fuel.fuel 0)
     fast false = record { setup = refl; stack = refl; frames = refl; chain = refl; coros = λ c. refl }

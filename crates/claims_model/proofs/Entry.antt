@@ -24,7 +24,7 @@ use Rattle.model.specs.Sound.{sound}
 use Rattle.model.specs.Call.{Call, SetUp, Do}
 use Rattle.model.specs.Calls.{Row, Instruction, OnFrame, OnHost, Unwinds, Grants, Looks, Other, table}
 use Rattle.model.specs.Exec.{largest_in, larger_of, auto_key}
-use Rattle.model.specs.declared.coro.Keys.{Keys}
+use Rattle.std.specs.Prelude.{Option, Some, None}
 use Rattle.claims_invariant.specs.Kept.{raises}
 use Rattle.claims_model.specs.Says as Says
 use Rattle.claims_model.specs.Steps.{view_of}
@@ -35,7 +35,6 @@ use Rattle.model.specs.declared.machine.Driver.{Driver}
 use Rattle.model.specs.declared.machine.Frame.{Frame}
 use Rattle.model.specs.declared.machine.Charge.{Charge}
 use Rattle.heap.specs.declared.heap.ResultKind.{ResultKind}
-use Rattle.model.specs.declared.call.OptPc.{OptPc}
 use Rattle.model.specs.declared.call.Op.{Op}
 
 -- ---- what the calls are after
@@ -80,7 +79,7 @@ pub data Plan : Op → Type 0 where
   -- host entry
   hosting : (c v : ℕ) → Plan (Op.HostEntry c v)
   finishing : (kind : ResultKind) (v : ℕ) → Plan (Op.Finish kind v)
-  unwinding : (f : Fault) (pc : OptPc) → Plan (Op.Unwind f pc)
+  unwinding : (f : Fault) (pc : Option ℕ) → Plan (Op.Unwind f pc)
   -- an instruction that is after neither, and says so; and a call that is no instruction
   asking : {o : Op} {pc : ℕ} {ok : World → Bool} {arm : World → After Step} → table o ≡ Instruction pc ok arm → ((w : World) → Says.announced (view_of w) o ≡ Says.instr pc (ok w) Says.neither) → Plan o
   idle : {o : Op} → raises (table o) ≡ true → ((w : World) → Says.announced (view_of w) o ≡ Says.other) → Plan o
@@ -156,8 +155,8 @@ enter_aim (turns pc has iter val src) w = enters (reg w src) (Driver.Iter has va
 abbrev pub suspend_ok : {o : Op} → Suspending o → World → Bool
 suspend_ok (yields pc dst src) w =
     in_body w.chain (λ a. keyed (tries pc CoroState.Yielded dst (reg w src)) (auto_key (largest_in (coro w a.coro)) w).world (auto_key (largest_in (coro w a.coro)) w).answer)
-suspend_ok (yields_kv pc dst src key) w = in_body w.chain (λ a. tries pc CoroState.Yielded dst (reg w src) w (Keys.Set (reg w key) (larger_of (largest_in (coro w a.coro)) (dyn_int w (reg w key)))))
-suspend_ok (waits pc dst src) w = in_body w.chain (λ a. tries pc CoroState.Awaiting dst (reg w src) w Keys.Keep)
+suspend_ok (yields_kv pc dst src key) w = in_body w.chain (λ a. tries pc CoroState.Yielded dst (reg w src) w (Some (reg w key, larger_of (largest_in (coro w a.coro)) (dyn_int w (reg w key)))))
+suspend_ok (waits pc dst src) w = in_body w.chain (λ a. tries pc CoroState.Awaiting dst (reg w src) w None)
 
 -- pc and operands are those of the instruction's row
 abbrev pub at_row : Row → World → Aim → Act
@@ -219,7 +218,7 @@ charged Charge.Spent w e = nobody
 charged (Charge.Close n) w e = cleaned w.finalize w
 
 abbrev pub entry_by : Act → World → Entry
-entry_by (at pc ok a) w = pick (is_nil w.frames) nobody (pick (not ok) nobody (charged (charge (OptPc.Some pc) w).answer w (aimed a w)))
+entry_by (at pc ok a) w = pick (is_nil w.frames) nobody (pick (not ok) nobody (charged (charge (Some pc) w).answer w (aimed a w)))
 entry_by (by_host c v) w = pick (not (is_nil w.frames)) nobody (aimed (enters c Driver.Host (gets v) true) w)
 entry_by (finishes kind v) w = nobody
 entry_by unwinds w = nobody

@@ -29,10 +29,9 @@ use Rattle.model.specs.Calls.{Instruction, table}
 use Rattle.model.specs.Step.{doing, step, call}
 use Rattle.model.specs.declared.machine.Driver.{Driver}
 use Rattle.model.specs.declared.machine.Charge.{Charge}
-use Rattle.model.specs.declared.coro.Stated.{Stated}
+use Rattle.std.specs.Prelude.{Result, Some, Ok}
 use Rattle.model.specs.declared.coro.Entered.{Entered}
 use Rattle.model.specs.declared.exec.Step.{Step}
-use Rattle.model.specs.declared.call.OptPc.{OptPc}
 use Rattle.model.specs.declared.call.Op.{Op}
 use Rattle.claims_model.specs.Engine.{seen_created, seen_in, state_is}
 use Rattle.claims_model.specs.Says as Says
@@ -95,16 +94,16 @@ closed (Is k r) x a = ap (λ b. entry_number b (pick b nothing (closes x))) (sus
 
 -- ---- coro_enter, and then a tail that answers n
 
-module _ {A : Type 0} (num : A → ℕ) (f : World → Entered → After A) (n : ℕ) (fresh : (w : World) → num (f w Entered.Fresh).answer ≡ n) (is-suspended : (w : World) (r : ℕ) → num (f w (Entered.Suspended r)).answer ≡ n) where
+module _ {A : Type 0} (num : A → ℕ) (f : World → Result Entered Fault → After A) (n : ℕ) (fresh : (w : World) → num (f w (Ok Entered.Fresh)).answer ≡ n) (is-suspended : (w : World) (r : ℕ) → num (f w (Ok (Entered.Suspended r))).answer ≡ n) where
   entered-number : (c : ℕ) (d : Driver) (u : World) → accepts u c ≡ true → num (and_then (coro_enter c d u) f).answer ≡ n
   unfolding pick
   entered-number c d u a = go (coro_enter c d u) (enter-case c d u)
     where
-      by : (b : Bool) (w : World) (r : ℕ) → num (f w (pick b Entered.Fresh (Entered.Suspended r))).answer ≡ n
+      by : (b : Bool) (w : World) (r : ℕ) → num (f w (pick b (Ok Entered.Fresh) (Ok (Entered.Suspended r)))).answer ≡ n
       by true w r = fresh w
       by false w r = is-suspended w r
 
-      go : (e : After Entered) → EnterCase c d u e → num (f e.world e.answer).answer ≡ n
+      go : (e : After (Result Entered Fault)) → EnterCase c d u e → num (f e.world e.answer).answer ≡ n
       go e (e-out g h) = no_both a h
       go e (e-in k r h b m q) = by (is_created k.state) (entered c d k r u) k.waiting
 
@@ -160,7 +159,7 @@ close-tells p dst c src v =
     in17 : accepts v n ≡ true → step_number (close_in p dst n x v).answer ≡ 17
     in17 a = entered-number step_number (close_entered n x) 17 (λ w. refl) (λ w r. refl) n d (store_pc p v) (stored-accepts p v n a)
 
-    states : (s : CoroState) → is_suspended s ≡ true → accepts v n ≡ true → step_number (close_to (Stated.In s) p dst n x v).answer ≡ 17
+    states : (s : CoroState) → is_suspended s ≡ true → accepts v n ≡ true → step_number (close_to (Ok s) p dst n x v).answer ≡ 17
     states CoroState.Created h a = no_both h refl
     states CoroState.Running h a = no_both h refl
     states CoroState.Yielded h a = in17 a
@@ -226,11 +225,11 @@ instr-tells w o F {p} {ok} {arm} e q owes =
     paid ch (c-spent v r) = tt
     paid ch (c-close n c z x t) = subst (λ e. Tells w e 17) (sym x) refl
 
-    gate : (a b : Bool) → Tells w (pick a nobody (pick (not b) nobody (charged (charge (OptPc.Some p) w).answer w (aimed (aim w) w))))
-        (number_of (pick a (refused w Fault.NoFrame) (pick (not b) (refused w Fault.BadOperand) (and_then (charge (OptPc.Some p) w) (Gate.charged arm)))).answer)
+    gate : (a b : Bool) → Tells w (pick a nobody (pick (not b) nobody (charged (charge (Some p) w).answer w (aimed (aim w) w))))
+        (number_of (pick a (refused w Fault.NoFrame) (pick (not b) (refused w Fault.BadOperand) (and_then (charge (Some p) w) (Gate.charged arm)))).answer)
     gate true b = tt
     gate false false = tt
-    gate false true = paid (charge (OptPc.Some p) w) (charge-case p w)
+    gate false true = paid (charge (Some p) w) (charge-case p w)
 
 -- ---- the calls
 

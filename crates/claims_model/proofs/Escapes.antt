@@ -20,13 +20,12 @@ use Rattle.model.specs.Cleanup.{charge}
 use Rattle.model.specs.Machine.{caught, stop_or, escape, search_as, search}
 use Rattle.model.specs.Answer.{number_of}
 use Rattle.model.specs.declared.program.Handler.{Handler}
-use Rattle.model.specs.declared.program.Caught.{Caught}
+use Rattle.std.specs.Prelude.{Option as RustOption, Some, None}
 use Rattle.model.specs.declared.machine.Cont.{Cont}
 use Rattle.model.specs.declared.machine.Driver.{Driver}
 use Rattle.model.specs.declared.machine.Active.{Active}
 use Rattle.model.specs.declared.machine.Frame.{Frame}
 use Rattle.model.specs.declared.machine.Stop.{Stop}
-use Rattle.model.specs.declared.call.OptPc.{OptPc}
 use Rattle.model.specs.declared.call.Answer.{Answer}
 use Rattle.claims_model.specs.Engine as Engine
 use Rattle.claims_model.specs.Engine.{seen_in}
@@ -51,20 +50,20 @@ then-ended g (e-returns u f fs a chain t r n) = e-returns u f fs a chain (g u t)
 
 -- ---- handlers
 
-pub data Looks (hs : List Handler) (pc : ℕ) : Caught → Bool → Type 0 where
-  nothing : Looks hs pc Caught.Nothing false
-  found : (h : Handler) → Looks hs pc (Caught.By h) true
+pub data Looks (hs : List Handler) (pc : ℕ) : RustOption Handler → Bool → Type 0 where
+  nothing : Looks hs pc None false
+  found : (h : Handler) → Looks hs pc (Some h) true
 
 pub looks : (hs : List Handler) (pc : ℕ) → Looks hs pc (first_of pc hs) (Events.caught hs pc)
 unfolding pick
 looks [] pc = nothing
 looks (h ∷ hs) pc = go (covers pc h) (looks hs pc)
   where
-    more : {c : Caught} {b : Bool} → Looks hs pc c b → Looks (h ∷ hs) pc c b
+    more : {c : RustOption Handler} {b : Bool} → Looks hs pc c b → Looks (h ∷ hs) pc c b
     more nothing = nothing
     more (found h) = found h
 
-    go : (b : Bool) → Looks hs pc (first_of pc hs) (Events.caught hs pc) → Looks (h ∷ hs) pc (pick b (Caught.By h) (first_of pc hs)) (b || Events.caught hs pc)
+    go : (b : Bool) → Looks hs pc (first_of pc hs) (Events.caught hs pc) → Looks (h ∷ hs) pc (pick b (Some h) (first_of pc hs)) (b || Events.caught hs pc)
     go true l = found h
     go false l = more l
 
@@ -173,11 +172,11 @@ module _ (v : Engine.View) (value f pc : ℕ) where
   leaving x xs next w p h Cont.Discard q = then-ended (λ y t. pops x xs refl p (inl (ap is_coro q)) t) (next (pop_to x xs w) refl (record { handlers = h.handlers; coros = h.coros }))
   leaving x xs next w p h Cont.Coro q = body-left x xs next w p (ap is_coro q) h w.chain refl
 
-  looked : (x : Frame) (xs : List Frame) → Next xs → (w : World) → w.frames ≡ x ∷ xs → Sees v w → {c : Caught} {b : Bool} → Looks (func w.setup x.func).handlers x.pc c b
+  looked : (x : Frame) (xs : List Frame) → Next xs → (w : World) → w.frames ≡ x ∷ xs → Sees v w → {c : RustOption Handler} {b : Bool} → Looks (func w.setup x.func).handlers x.pc c b
       → Ended (view w) (search_as c x xs value f pc (search xs value f pc) w) (pick b none (Events.escape_from x.cont v value w.chain (escaped v value xs)))
   unfolding pick
   looked x xs next w p h nothing = leaving x xs next w p h x.cont refl
-  looked x xs next w p h (found n) = e-works (same-worked (charge-none w) (handled value f pc n (charge OptPc.None w).world (charge OptPc.None w).answer))
+  looked x xs next w p h (found n) = e-works (same-worked (charge-none w) (handled value f pc n (charge None w).world (charge None w).answer))
 
   pub search-ended : (fs : List Frame) → Next fs
   search-ended [] w p h = e-works done

@@ -20,14 +20,14 @@ use Rattle.model.specs.Coro.{fail_to, escaped_on, coro_escaped}
 use Rattle.model.specs.Cleanup.{charge}
 use Rattle.model.specs.Machine.{caught, stop_or, escape, search_as, search}
 use Rattle.model.specs.Answer.{number_of}
-use Rattle.model.specs.declared.program.Caught.{Caught}
+use Rattle.std.specs.Prelude.{Option, None}
+use Rattle.model.specs.declared.program.Handler.{Handler}
 use Rattle.model.specs.declared.machine.Cont.{Cont}
 use Rattle.model.specs.declared.machine.Driver.{Driver}
 use Rattle.model.specs.declared.machine.Active.{Active}
 use Rattle.model.specs.declared.machine.Frame.{Frame}
 use Rattle.model.specs.declared.machine.Stop.{Stop}
 use Rattle.model.specs.declared.machine.Charge.{Charge}
-use Rattle.model.specs.declared.call.OptPc.{OptPc}
 use Rattle.model.specs.declared.call.Answer.{Answer}
 use Rattle.claims_model.specs.Engine as Engine
 use Rattle.claims_model.specs.Engine.{seen_in, state_is}
@@ -212,13 +212,13 @@ module _ (v : Engine.View) (value f pc : ℕ) where
   leaving x xs next w p h rs Cont.Discard q = popped x xs next w h rs
   leaving x xs next w p h rs Cont.Coro q = body-left x xs next w p (ap is_coro q) h rs w.chain refl
 
-  looked : (x : Frame) (xs : List Frame) → Next xs → (w : World) → w.frames ≡ x ∷ xs → Sees v w → AllRun v w.chain → {c : Caught} {b : Bool}
+  looked : (x : Frame) (xs : List Frame) → Next xs → (w : World) → w.frames ≡ x ∷ xs → Sees v w → AllRun v w.chain → {c : Option Handler} {b : Bool}
       → Looks (func w.setup x.func).handlers x.pc c b → Loses value w (search_as c x xs value f pc (search xs value f pc) w) (pick b [] (losing x.cont v value w.chain (lost v value xs)))
   unfolding pick
   looked x xs next w p h rs nothing = leaving x xs next w p h rs x.cont refl
-  looked x xs next w p h rs (found n) = handled (charge OptPc.None w).answer
+  looked x xs next w p h rs (found n) = handled (charge None w).answer
     where
-      handled : (ch : Charge) → Loses value w (caught n value (charge OptPc.None w).world ch) []
+      handled : (ch : Charge) → Loses value w (caught n value (charge None w).world ch) []
       handled (Charge.Done i) = loses-none w _ (λ c. ap core_in ((charge-none w).coros c)) refl
       handled Charge.Spent = loses-none w _ (λ c. ap core_in ((charge-none w).coros c)) refl
       handled (Charge.Close i) = loses-none w _ (λ c. ap core_in ((charge-none w).coros c)) refl

@@ -16,7 +16,8 @@ use Rattle.model.specs.Sound.{marked}
 use Rattle.model.specs.Call.{Call, SetUp, Do}
 use Rattle.model.specs.declared.machine.Driver.{Driver}
 use Rattle.model.specs.declared.machine.Frame.{Frame}
-use Rattle.model.specs.declared.coro.WordOr.{WordOr}
+use Rattle.std.specs.Prelude.{Result, Ok, Err}
+use Rattle.heap.specs.declared.fault.Fault.{Fault}
 use Rattle.claims_model.specs.Engine.{Seen}
 use Rattle.claims_model.specs.Says.{Sent, nothing, gets, closes}
 use Rattle.claims_model.specs.Steps.{seen_of}
@@ -79,9 +80,9 @@ pub data Event : Type 0 where
   Ignores : Event
   Returns : ℕ → Event
 
-abbrev pub made_word : WordOr → ℕ
-made_word (WordOr.Word v) = v
-made_word (WordOr.Refused f) = nil
+abbrev pub made_word : Result ℕ Fault → ℕ
+made_word (Ok v) = v
+made_word (Err f) = nil
 
 -- of a suspension in a state, closing or not, with its payload
 abbrev pub event_as : Bool → CoroState → ℕ → Event

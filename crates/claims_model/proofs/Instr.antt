@@ -25,7 +25,7 @@ use Rattle.model.specs.declared.machine.Active.{Active}
 use Rattle.model.specs.declared.machine.Frame.{Frame}
 use Rattle.model.specs.declared.machine.Charge.{Charge}
 use Rattle.model.specs.declared.exec.Step.{Step}
-use Rattle.model.specs.declared.call.OptPc.{OptPc}
+use Rattle.std.specs.Prelude.{Some}
 use Rattle.model.specs.declared.call.Op.{Op}
 use Rattle.claims_model.specs.Says.{Sent}
 use Rattle.claims_model.specs.Held.{closed_by}
@@ -150,10 +150,10 @@ instr-shape w o p ok F arm e may owes = gate (is_nil w.frames) ok refl refl
     aim_same : {v : World} → Alike p w v → aim v ≡ aim w
     aim_same a = λ i. F (a.base i) (a.stack i) (a.slots i)
 
-    by : entry_by (act w o) w ≡ pick (is_nil w.frames) nobody (pick (not ok) nobody (charged (charge (OptPc.Some p) w).answer w (aimed (aim w) w)))
+    by : entry_by (act w o) w ≡ pick (is_nil w.frames) nobody (pick (not ok) nobody (charged (charge (Some p) w).answer w (aimed (aim w) w)))
     by = ap (λ x. entry_by x w) e
 
-    held : takes_by (act w o) (suspends_in o) w ≡ pick (is_nil w.frames) false (pick (not ok) false (paid_by (suspends_in o) (charge (OptPc.Some p) w).world (charge (OptPc.Some p) w).answer))
+    held : takes_by (act w o) (suspends_in o) w ≡ pick (is_nil w.frames) false (pick (not ok) false (paid_by (suspends_in o) (charge (Some p) w).world (charge (Some p) w).answer))
     held = ap (λ x. takes_by x (suspends_in o) w) e
 
     at-pc : pc_by (act w o) ≡ p
@@ -177,17 +177,17 @@ instr-shape w o p ok F arm e may owes = gate (is_nil w.frames) ok refl refl
     paid ch q h (c-spent v r) = S.works (record { entry = q; takes = h }) (mode_of (act w o)) refl (ready-works may r (mode_of (act w o)) (view v) done)
     paid ch q h (c-close n c z x t) = entering (record { entry = q ∙ x; takes = h }) t
 
-    gate : (a b : Bool) → is_nil w.frames ≡ a → ok ≡ b → Shape w o (pick a (refused w Fault.NoFrame) (pick (not b) (refused w Fault.BadOperand) (and_then (charge (OptPc.Some p) w) (Gate.charged arm)))).world
+    gate : (a b : Bool) → is_nil w.frames ≡ a → ok ≡ b → Shape w o (pick a (refused w Fault.NoFrame) (pick (not b) (refused w Fault.BadOperand) (and_then (charge (Some p) w) (Gate.charged arm)))).world
     gate true b x y = S.works (record {
-      entry = by ∙ ap (λ t. pick t nobody (pick (not ok) nobody (charged (charge (OptPc.Some p) w).answer w (aimed (aim w) w)))) x;
+      entry = by ∙ ap (λ t. pick t nobody (pick (not ok) nobody (charged (charge (Some p) w).answer w (aimed (aim w) w)))) x;
       takes = held ∙ ap
-          (λ t. pick t false (pick (not ok) false (paid_by (suspends_in o) (charge (OptPc.Some p) w).world (charge (OptPc.Some p) w).answer))) x;
+          (λ t. pick t false (pick (not ok) false (paid_by (suspends_in o) (charge (Some p) w).world (charge (Some p) w).answer))) x;
     }) (mode_of (act w o)) refl done
     gate false false x y = S.works (record {
-      entry = by ∙ (λ i. pick (x i) nobody (pick (not (y i)) nobody (charged (charge (OptPc.Some p) w).answer w (aimed (aim w) w))));
+      entry = by ∙ (λ i. pick (x i) nobody (pick (not (y i)) nobody (charged (charge (Some p) w).answer w (aimed (aim w) w))));
       takes = held ∙
-          (λ i. pick (x i) false (pick (not (y i)) false (paid_by (suspends_in o) (charge (OptPc.Some p) w).world (charge (OptPc.Some p) w).answer)));
+          (λ i. pick (x i) false (pick (not (y i)) false (paid_by (suspends_in o) (charge (Some p) w).world (charge (Some p) w).answer)));
     }) (mode_of (act w o)) refl done
     gate false true x y =
-        paid (charge (OptPc.Some p) w) (by ∙ (λ i. pick (x i) nobody (pick (not (y i)) nobody (charged (charge (OptPc.Some p) w).answer w (aimed (aim w) w)))))
-        (held ∙ (λ i. pick (x i) false (pick (not (y i)) false (paid_by (suspends_in o) (charge (OptPc.Some p) w).world (charge (OptPc.Some p) w).answer)))) (charge-case p w)
+        paid (charge (Some p) w) (by ∙ (λ i. pick (x i) nobody (pick (not (y i)) nobody (charged (charge (Some p) w).answer w (aimed (aim w) w)))))
+        (held ∙ (λ i. pick (x i) false (pick (not (y i)) false (paid_by (suspends_in o) (charge (Some p) w).world (charge (Some p) w).answer)))) (charge-case p w)

@@ -28,9 +28,8 @@ use Rattle.model.specs.Call.{Call, SetUp, Do}
 use Rattle.model.specs.Step.{call, step}
 use Rattle.model.specs.declared.machine.Active.{Active}
 use Rattle.model.specs.declared.machine.Frame.{Frame}
-use Rattle.model.specs.declared.coro.WordOr.{WordOr}
+use Rattle.std.specs.Prelude.{Option as RustOption, Result, Some, None, Ok}
 use Rattle.heap.specs.declared.heap.ResultKind.{ResultKind}
-use Rattle.model.specs.declared.call.OptPc.{OptPc}
 use Rattle.model.specs.declared.call.Op.{Op}
 use Rattle.model.specs.declared.call.Answer.{Answer}
 use Rattle.claims_sound.proofs.Sound.{sound→}
@@ -114,9 +113,9 @@ module _ (w : World) (h : sound w ≡ true) where
       (subst (λ gs. Loses x u (search_frames x u) (lost (view_of w) x gs u.chain)) p
       (search-loses (view_of w) x (top_func u.frames) (top_pc u.frames) u.frames u refl s (subst (AllRun (view_of w)) (sym q) (chain_runs w h))))
 
-  word-loses : (x : ℕ) (pc : OptPc) → Loses x w (search_frames x (store_some pc w)) (lost_at (view_of w) (some x) pc)
-  word-loses x OptPc.None = frames-lose x w.frames w (sees w h) refl refl
-  word-loses x (OptPc.Some p) = loses-same (λ c. refl) (frames-lose x (at p w.frames) (store_pc p w) (stored-sees w h (OptPc.Some p)) (at_top p w.frames) refl)
+  word-loses : (x : ℕ) (pc : RustOption ℕ) → Loses x w (search_frames x (store_some pc w)) (lost_at (view_of w) (some x) pc)
+  word-loses x None = frames-lose x w.frames w (sees w h) refl refl
+  word-loses x (Some p) = loses-same (λ c. refl) (frames-lose x (at p w.frames) (store_pc p w) (stored-sees w h (Some p)) (at_top p w.frames) refl)
 
   object-at : (f : Fault) (u : World) (fs : List Frame) → u.slots ≡ w.slots → u.setup ≡ w.setup → u.frames ≡ fs → u.chain ≡ w.chain
       → Unwound w (and_then (alloc u.setup.costs.error (error_of f u) u) search_made) (some (next_word w.slots)) (lost (view_of w) (next_word w.slots) fs w.chain)
@@ -126,8 +125,8 @@ module _ (w : World) (h : sound w ≡ true) where
       y : World
       y = with_used (sat_add u.used u.setup.costs.error) (with_slots (push_object u.slots (error_of f u)) u)
 
-      made : (a b : Bool) → After WordOr
-      made a b = pick a (refuse u Fault.OutOfMemory) (pick b (refuse u Fault.Full) (after y (WordOr.Word (next_word u.slots))))
+      made : (a b : Bool) → After (Result ℕ Fault)
+      made a b = pick a (refuse u Fault.OutOfMemory) (pick b (refuse u Fault.Full) (after y (Ok (next_word u.slots))))
 
       here : (c : ℕ) → coro y c ≡ coro w c
       here c = push-coros u.slots (error_of f u) refl c ∙ ap (λ xs. coro_in xs c) es
@@ -137,18 +136,18 @@ module _ (w : World) (h : sound w ≡ true) where
       go false true = by-same (λ c. ap (λ xs. core_in (coro_in xs c)) es) (inl refl)
       go false false = by-loses (loses-same (λ c. ap core_in (here c)) (subst (λ xs. Loses (next_word xs) y (search_frames (next_word u.slots) y) (lost (view_of w) (next_word xs) fs w.chain)) es (frames-lose (next_word u.slots) fs y (made-sees w h f u es e q) p q)))
 
-  object-unwound : (f : Fault) (pc : OptPc) → let u = store_some pc w in Unwound w (and_then (alloc u.setup.costs.error (error_of f u) u) search_made) (some (next_word w.slots)) (lost_at (view_of w) (some (next_word w.slots)) pc)
-  object-unwound f OptPc.None = object-at f w w.frames refl refl refl refl
-  object-unwound f (OptPc.Some p) = object-at f (store_pc p w) (at p w.frames) refl refl (at_top p w.frames) refl
+  object-unwound : (f : Fault) (pc : RustOption ℕ) → let u = store_some pc w in Unwound w (and_then (alloc u.setup.costs.error (error_of f u) u) search_made) (some (next_word w.slots)) (lost_at (view_of w) (some (next_word w.slots)) pc)
+  object-unwound f None = object-at f w w.frames refl refl refl refl
+  object-unwound f (Some p) = object-at f (store_pc p w) (at p w.frames) refl refl (at_top p w.frames) refl
 
-  passed : (pc : OptPc) (f : Fault) → Unwound w (after (store_some pc w) (Answer.Refused f)) none []
-  passed OptPc.None f = by-same (λ c. refl) (inr refl)
-  passed (OptPc.Some p) f = by-same (λ c. refl) (inr refl)
+  passed : (pc : RustOption ℕ) (f : Fault) → Unwound w (after (store_some pc w) (Answer.Refused f)) none []
+  passed None f = by-same (λ c. refl) (inr refl)
+  passed (Some p) f = by-same (λ c. refl) (inr refl)
 
   refused : (f : Fault) → Unwound w (after w (Answer.Refused f)) none []
   refused f = by-same (λ c. refl) (inr refl)
 
-  pub unwound : (f : Fault) (pc : OptPc) → Unwound w (unwind f pc w) (raised (view_of w) f) (lost_at (view_of w) (raised (view_of w) f) pc)
+  pub unwound : (f : Fault) (pc : RustOption ℕ) → Unwound w (unwind f pc w) (raised (view_of w) f) (lost_at (view_of w) (raised (view_of w) f) pc)
   unfolding unwind pick
   unwound Fault.None pc = refused Fault.Unsound
   unwound Fault.NullReference pc = object-unwound Fault.NullReference pc
@@ -169,7 +168,7 @@ module _ (w : World) (h : sound w ≡ true) where
   unwound Fault.GrantTooLarge pc = refused Fault.Unsound
   unwound (Fault.Throw x) pc = by-loses (word-loses x pc)
 
-  pub thrown-gone : (x : ℕ) (pc : OptPc) (c : ℕ) → among c (lost_at (view_of w) (some x) pc) ≡ true → (core_at (unwind (Fault.Throw x) pc w).world c).state ≡ CoroState.Failed
+  pub thrown-gone : (x : ℕ) (pc : RustOption ℕ) (c : ℕ) → among c (lost_at (view_of w) (some x) pc) ≡ true → (core_at (unwind (Fault.Throw x) pc w).world c).state ≡ CoroState.Failed
   unfolding unwind pick
   thrown-gone x pc c a = ((word-loses x pc).gone c a).1.0
 

@@ -12,7 +12,7 @@ use Rattle.heap.specs.Word.{nil}
 use Rattle.heap.specs.Charge.{sat_add}
 use Rattle.heap.specs.Table.{push_object, next_word}
 use Rattle.heap.specs.declared.fault.Fault.{Fault}
-use Rattle.heap.specs.declared.value.Opt.{Opt}
+use Rattle.std.specs.Prelude.{Option as RustOption, Result, Some, None, Ok, Err}
 use Rattle.model.specs.Program.{func, is_function}
 use Rattle.model.specs.Object.{Object, Coroutine, Absent, Is, as_coro}
 use Rattle.model.specs.World.{World, After, after, and_then, with_slots, with_used, with_seq}
@@ -30,8 +30,6 @@ use Rattle.model.specs.Step as M
 use Rattle.model.specs.Step.{call, tested, step}
 use Rattle.model.specs.declared.machine.Cont.{Cont}
 use Rattle.model.specs.declared.machine.Charge.{Charge}
-use Rattle.model.specs.declared.coro.WordOr.{WordOr}
-use Rattle.model.specs.declared.call.OptPc.{OptPc}
 use Rattle.model.specs.declared.call.Op.{Op}
 use Rattle.claims_model.specs.Engine.{Seen}
 use Rattle.claims_model.specs.Says.{register_word}
@@ -77,8 +75,8 @@ module _ (v : World) (c : ℕ) (e : coro v c ≡ Absent) where
       bytes : ℕ
       bytes = 8 * n + v.setup.costs.object + v.setup.costs.frame
 
-      grown : After WordOr
-      grown = after (with_used (sat_add u.used bytes) (with_slots (push_object u.slots o) u)) (WordOr.Word (next_word u.slots))
+      grown : After (Result ℕ Fault)
+      grown = after (with_used (sat_add u.used bytes) (with_slots (push_object u.slots o) u)) (Ok (next_word u.slots))
 
       found : (object_in (push_object v.slots o) c ≡ object_in v.slots c) ⊎ ((object_in v.slots c ≡ Object.Empty) × (object_in (push_object v.slots o) c ≡ o)) → (core_in (as_coro (object_in (push_object v.slots o) c))).seen ≡ some x
           → x ≡ made (rules_of v.setup) f closure args
@@ -116,20 +114,20 @@ module _ (v : World) (c : ℕ) (e : coro v c ≡ Absent) where
 
 -- ---- and then a register, or the hook's frame: no coroutine changes
 
-put-core : (dst : ℕ) (u : World) (m : WordOr) (c : ℕ) → core_at (put_made dst u m).world c ≡ core_at u c
-put-core dst u (WordOr.Word x) c = refl
-put-core dst u (WordOr.Refused f) c = refl
+put-core : (dst : ℕ) (u : World) (m : Result ℕ Fault) (c : ℕ) → core_at (put_made dst u m).world c ≡ core_at u c
+put-core dst u (Ok x) c = refl
+put-core dst u (Err f) c = refl
 
 hook-core : (hook pc dst y : ℕ) (u : World) (c : ℕ) → core_at (and_then (push_frame hook nil (Cont.Value dst) (store_pc pc u)) (hooked u y)).world c ≡ core_at u c
 hook-core hook pc dst y u c = go (push_frame hook nil (Cont.Value dst) (store_pc pc u)) (push_case hook nil (Cont.Value dst) (store_pc pc u))
   where
-    go : (o : After WordOr) → PushCase hook nil (Cont.Value dst) (store_pc pc u) o → core_at (hooked u y o.world o.answer).world c ≡ core_at u c
+    go : (o : After (Result ℕ Fault)) → PushCase hook nil (Cont.Value dst) (store_pc pc u) o → core_at (hooked u y o.world o.answer).world c ≡ core_at u c
     go o (p-in n) = refl
     go o (p-out f) = refl
 
-spawn-core : (hook pc dst : ℕ) (u : World) (m : WordOr) (c : ℕ) → core_at (spawn_made hook pc dst u m).world c ≡ core_at u c
-spawn-core hook pc dst u (WordOr.Refused f) c = refl
-spawn-core hook pc dst u (WordOr.Word y) c = paid (charge OptPc.None u).world (charge OptPc.None u).answer ∙ ap core_in ((charge-none u).coros c)
+spawn-core : (hook pc dst : ℕ) (u : World) (m : Result ℕ Fault) (c : ℕ) → core_at (spawn_made hook pc dst u m).world c ≡ core_at u c
+spawn-core hook pc dst u (Err f) c = refl
+spawn-core hook pc dst u (Ok y) c = paid (charge None u).world (charge None u).answer ∙ ap core_in ((charge-none u).coros c)
   where
     paid : (t : World) (x : Charge) → core_at (call_hook hook pc dst y t x).world c ≡ core_at t c
     paid t (Charge.Done n) = hook-core hook pc dst y t c
@@ -170,9 +168,9 @@ module _ (w : World) (c : ℕ) (e : coro w c ≡ Absent) where
   unfolding call spawn
   spawn-by pc dst r argc = instr-any w c e (λ s. (x : Seen) → s ≡ some x → MadeBy w dst r argc x) (λ x q. no_one (absent w c e) q) pc _ (spawn pc dst r argc) (λ v a x q. with-hook v a v.setup.hook x q)
     where
-      with-hook : {p : ℕ} (v : World) → Alike p w v → (h : Opt) (x : Seen) → (core_at (spawn_with h pc dst r argc v).world c).seen ≡ some x → MadeBy w dst r argc x
-      with-hook v a Opt.None x q = no_one (absent v c (here a)) q
-      with-hook v a (Opt.Some hook) x q = let o = indirect dst r argc v in by_register v a dst r argc x (sym (ap (λ (y : Seat). y.seen) (spawn-core hook pc dst o.world o.answer c)) ∙ q)
+      with-hook : {p : ℕ} (v : World) → Alike p w v → (h : RustOption ℕ) (x : Seen) → (core_at (spawn_with h pc dst r argc v).world c).seen ≡ some x → MadeBy w dst r argc x
+      with-hook v a None x q = no_one (absent v c (here a)) q
+      with-hook v a (Some hook) x q = let o = indirect dst r argc v in by_register v a dst r argc x (sym (ap (λ (y : Seat). y.seen) (spawn-core hook pc dst o.world o.answer c)) ∙ q)
 
 -- by a step
 stepped : (c : ℕ) (w : World) (k : Call) (o : Op) (Q : Seen → Type 0) → ((e : coro w c ≡ Absent) (x : Seen) → (core_at (call o w).world c).seen ≡ some x → Q x)

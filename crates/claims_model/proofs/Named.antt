@@ -14,8 +14,7 @@ use Rattle.heap.specs.Fault as Faults
 use Rattle.heap.specs.Charge.{sat_add}
 use Rattle.heap.specs.Table.{Slot, get_in, push_object, next_word}
 use Rattle.heap.specs.declared.fault.Fault.{Fault}
-use Rattle.heap.specs.declared.value.Opt.{Opt}
-use Rattle.heap.specs.declared.heap.Place.{Place}
+use Rattle.std.specs.Prelude.{Option, Result, Some, None, Ok, Err}
 use Rattle.heap.proofs.Words.{class-ref}
 use Rattle.model.specs.Lists.{is_nil}
 use Rattle.model.specs.Program.{Setup, func, is_function, hook_ok}
@@ -38,9 +37,7 @@ use Rattle.model.specs.Step.{call, tested, step}
 use Rattle.model.specs.declared.machine.Cont.{Cont}
 use Rattle.model.specs.declared.machine.Frame.{Frame}
 use Rattle.model.specs.declared.machine.Charge.{Charge}
-use Rattle.model.specs.declared.coro.WordOr.{WordOr}
 use Rattle.model.specs.declared.exec.Step.{Step}
-use Rattle.model.specs.declared.call.OptPc.{OptPc}
 use Rattle.model.specs.declared.call.Op.{Op}
 use Rattle.claims_sound.proofs.Sound.{facts, sound→}
 use Rattle.claims_model.specs.Engine.{Seen}
@@ -72,10 +69,10 @@ instr-zero w p ok arm P owes = gate (is_nil w.frames) ok
     paid ch (c-spent v r) h = absurd (omega (arith, h))
     paid ch (c-close n u z x t) h = absurd (omega (arith, h))
 
-    gate : (a b : Bool) → let o = pick a (refused w Fault.NoFrame) (pick (not b) (refused w Fault.BadOperand) (and_then (charge (OptPc.Some p) w) (Gate.charged arm))) in number_of o.answer ≡ 0 → P o.world
+    gate : (a b : Bool) → let o = pick a (refused w Fault.NoFrame) (pick (not b) (refused w Fault.BadOperand) (and_then (charge (Some p) w) (Gate.charged arm))) in number_of o.answer ≡ 0 → P o.world
     gate true b h = absurd (omega (arith, h))
     gate false false h = absurd (omega (arith, h))
-    gate false true h = paid (charge (OptPc.Some p) w) (charge-case p w) h
+    gate false true h = paid (charge (Some p) w) (charge-case p w) h
 
 -- and a call that is, has found a sound machine
 pub tested-zero : (w : World) (o : Op) (P : World → Type 0) → (sound w ≡ true → number_of (call o w).answer ≡ 0 → P (call o w).world) → number_of (tested w o).answer ≡ 0 → P (tested w o).world
@@ -92,18 +89,18 @@ tested-zero w o P f = go (sound w) refl
 next-empty : (xs : List (Slot Object)) → length xs < 2 ^ 32 → object_in xs (next_word xs) ≡ Object.Empty
 next-empty xs l =
     ap (λ c. object_at xs (get_in Object.Empty is_filled xs c)) (class-ref (length xs) 0 l (omega arith))
-    ∙ ap (λ b. object_at xs (pick (b && (eqb (find xs (slot_of w)).tag (tag_of w) && is_filled (find xs (slot_of w)).object)) (Place.At (slot_of w)) Place.Nothing))
+    ∙ ap (λ b. object_at xs (pick (b && (eqb (find xs (slot_of w)).tag (tag_of w) && is_filled (find xs (slot_of w)).object)) (Some (slot_of w)) None))
     (le-ltb (slot_of w) (length xs) (omega (arith, l)))
-    ∙ ap (object_at xs) (pick-false (Place.At (slot_of w)) Place.Nothing)
+    ∙ ap (object_at xs) (pick-false (Some (slot_of w)) None)
   where
     w : ℕ
     w = reference (length xs) 0
 
 -- of what a creation leaves: a new coroutine under the next word, and nothing else that is read here; or a refusal
-data Birth (v : World) (P : Seen → Type 0) : After WordOr → Type 0 where
+data Birth (v : World) (P : Seen → Type 0) : After (Result ℕ Fault) → Type 0 where
   b-in : (u : World) (x : Seen) → P x → (core_at u (next_word v.slots)).seen ≡ some x → u.setup ≡ v.setup → u.stack ≡ v.stack → u.frames ≡ v.frames
-      → Birth v P (after u (WordOr.Word (next_word v.slots)))
-  b-out : (u : World) (f : Fault) → (Faults.number_of f ≡ 0 → ⊥) → Birth v P (after u (WordOr.Refused f))
+      → Birth v P (after u (Ok (next_word v.slots)))
+  b-out : (u : World) (f : Fault) → (Faults.number_of f ≡ 0 → ⊥) → Birth v P (after u (Err f))
 
 module _ (v : World) (l : length v.slots < 2 ^ 32) where
   create-born : (f closure : ℕ) (args : List ℕ) (P : Seen → Type 0) → P (made (rules_of v.setup) f closure args) → Birth v P (coro_create f closure args v)
@@ -125,8 +122,8 @@ module _ (v : World) (l : length v.slots < 2 ^ 32) where
       grown : World
       grown = with_used (sat_add u.used bytes) (with_slots (push_object u.slots new) u)
 
-      last : After WordOr
-      last = after grown (WordOr.Word (next_word u.slots))
+      last : After (Result ℕ Fault)
+      last = after grown (Ok (next_word u.slots))
 
       go : (a b d g : Bool) → Birth v P (pick a (refuse v Fault.OutOfMemory) (pick b (refuse v Fault.Full) (pick d (refuse u Fault.OutOfMemory) (pick g (refuse u Fault.Full) last))))
       go true b d g = b-out v Fault.OutOfMemory (λ e. omega (arith, e))
@@ -192,7 +189,7 @@ module _ {p : ℕ} {w v : World} (h : sound w ≡ true) (a : Alike p w v) where
       }
 
   -- a register has it
-  put-named : (dst : ℕ) (P : Seen → Type 0) (o : After WordOr) → Birth v P o → step_number (put_made dst o.world o.answer).answer ≡ 0
+  put-named : (dst : ℕ) (P : Seen → Type 0) (o : After (Result ℕ Fault)) → Birth v P o → step_number (put_made dst o.world o.answer).answer ≡ 0
       → (x : Seen) × P x × Named (view_of w) dst x (view_of (put_made dst o.world o.answer).world)
   put-named dst P o (b-out u f q) n = absurd (q n)
   put-named dst P o (b-in u x q t s xs fs) n = (
@@ -205,11 +202,11 @@ module _ {p : ℕ} {w v : World} (h : sound w ≡ true) (a : Alike p w v) where
   )
 
   -- the hook has it
-  spawn-hooked : (hook dst : ℕ) (P : Seen → Type 0) (o : After WordOr) → 0 < (func w.setup hook).regs → Birth v P o → step_number (spawn_made hook p dst o.world o.answer).answer ≡ 0
+  spawn-hooked : (hook dst : ℕ) (P : Seen → Type 0) (o : After (Result ℕ Fault)) → 0 < (func w.setup hook).regs → Birth v P o → step_number (spawn_made hook p dst o.world o.answer).answer ≡ 0
       → (x : Seen) × P x × Hooked (view_of w) p dst x (view_of (spawn_made hook p dst o.world o.answer).world)
   unfolding push_frame pick
   spawn-hooked hook dst P o g (b-out u f q) n = absurd (q n)
-  spawn-hooked hook dst P o g (b-in u x q t s xs fs) n = paid (charge OptPc.None u).world (charge OptPc.None u).answer (charge-none u) n
+  spawn-hooked hook dst P o g (b-in u x q t s xs fs) n = paid (charge None u).world (charge None u).answer (charge-none u) n
     where
       c : ℕ
       c = next_word v.slots
@@ -230,7 +227,7 @@ module _ {p : ℕ} {w v : World} (h : sound w ≡ true) (a : Alike p w v) where
           left : World
           left = with_frames (frame hook (length z.stack) nil (Cont.Value dst) ∷ y.frames) (with_stack (z.stack ++ replicate (func z.setup hook).regs 0) y)
 
-          go : (b : Bool) → let r = and_then (pick b (refuse y Fault.StackOverflow) (after left (WordOr.Word (length z.stack)))) (hooked z c) in step_number r.answer ≡ 0
+          go : (b : Bool) → let r = and_then (pick b (refuse y Fault.StackOverflow) (after left (Ok (length z.stack)))) (hooked z c) in step_number r.answer ≡ 0
               → (x : Seen) × P x × Hooked (view_of w) p dst x (view_of r.world)
           go true n = absurd (omega (arith, n))
           go false n = (
@@ -296,14 +293,14 @@ module _ (w : World) (h : sound w ≡ true) where
   unfolding call spawn
   spawned pc dst r argc = instr-zero w pc _ (spawn pc dst r argc) (HookedOf pc dst r argc w) (λ v a. by v a v.setup.hook (ap (λ (s : Setup). s.hook) (sym a.setup)))
     where
-      by : (v : World) → Alike pc w v → (k : Opt) → w.setup.hook ≡ k → step_number (spawn_with k pc dst r argc v).answer ≡ 0 → HookedOf pc dst r argc w (spawn_with k pc dst r argc v).world
-      by v a Opt.None e n = absurd (omega (arith, n))
-      by v a (Opt.Some hook) e n =
+      by : (v : World) → Alike pc w v → (k : Option ℕ) → w.setup.hook ≡ k → step_number (spawn_with k pc dst r argc v).answer ≡ 0 → HookedOf pc dst r argc w (spawn_with k pc dst r argc v).world
+      by v a None e n = absurd (omega (arith, n))
+      by v a (Some hook) e n =
           let s = w.setup in
           let ok : (is_function s hook && ltb 0 (func s hook).regs) ≡ true = ap (hook_ok s) (sym e) ∙ (facts s (sound→ {ex = false} w h (λ z. no_both z refl)).setup).hook in
           let (x, q, t) = spawn-hooked h a hook dst (Of dst r argc) (indirect dst r argc v) (ltb-true 0 (func s hook).regs (and_right (is_function s hook) (ltb 0 (func s hook).regs) ok))
           (indirect-born v (few-alike h a) dst r argc (Of dst r argc) (of-alike a dst r argc)) n in
-          (q.0, subst (λ x. Hooked (view_of w) pc dst x (view_of (spawn_with (Opt.Some hook) pc dst r argc v).world)) q.1 t)
+          (q.0, subst (λ x. Hooked (view_of w) pc dst x (view_of (spawn_with (Some hook) pc dst r argc v).world)) q.1 t)
 
 pub named : (w : World) (k : Call) (pc dst f argc : ℕ) → model_op k ≡ some (Op.CoroNew pc dst f argc) → number_of (step w k).answer ≡ 0 → NamedBy dst f argc w (step w k).world
 named w k pc dst f argc = let o = Op.CoroNew pc dst f argc in stepped (NamedBy dst f argc) o (λ w. tested-zero w o (NamedBy dst f argc w) (λ h. new-named w h pc dst f argc)) w k

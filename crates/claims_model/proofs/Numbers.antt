@@ -10,7 +10,7 @@ use Rattle.lists.specs.Pick.{pick}
 use Rattle.heap.specs.Fault as Faults
 use Rattle.heap.specs.Int.{next_key}
 use Rattle.heap.specs.declared.fault.Fault.{Fault}
-use Rattle.heap.specs.declared.int.Exact.{Exact}
+use Rattle.std.specs.Prelude.{Option, Result, Some, None, Ok, Err}
 use Rattle.heap.specs.declared.object.CoroState.{CoroState}
 use Rattle.model.specs.Lists.{is_nil}
 use Rattle.model.specs.State.{is_running, is_awaiting}
@@ -31,12 +31,7 @@ use Rattle.model.specs.declared.machine.Driver.{Driver}
 use Rattle.model.specs.declared.machine.Active.{Active}
 use Rattle.model.specs.declared.machine.Charge.{Charge}
 use Rattle.model.specs.declared.coro.Event.{Event}
-use Rattle.model.specs.declared.coro.Keys.{Keys}
-use Rattle.model.specs.declared.coro.WordOr.{WordOr}
-use Rattle.model.specs.declared.coro.AutoKey.{AutoKey}
-use Rattle.model.specs.declared.coro.Suspension.{Suspension}
 use Rattle.model.specs.declared.exec.Step.{Step}
-use Rattle.model.specs.declared.call.OptPc.{OptPc}
 use Rattle.model.specs.declared.call.Op.{Op}
 use Rattle.model.specs.declared.call.Answer.{Answer}
 use Rattle.claims_model.specs.Says.{Announced, announced}
@@ -103,11 +98,11 @@ delivered-told (Driver.Iter has val iter) false false x key w = refl
 delivered-told Driver.Host a b x key w = refl
 delivered-told Driver.Finalize a b x key w = refl
 
-suspend-number : (pc : ℕ) (s : CoroState) (dst x : ℕ) (keys : Keys) (v : World) → Stands v → Tells v (is_awaiting s) (step_number (suspend pc s dst x keys v).answer) (tries pc s dst x v keys)
+suspend-number : (pc : ℕ) (s : CoroState) (dst x : ℕ) (keys : Option (ℕ × ℕ)) (v : World) → Stands v → Tells v (is_awaiting s) (step_number (suspend pc s dst x keys v).answer) (tries pc s dst x v keys)
 unfolding coro_suspend pick
 suspend-number pc s dst x keys v there = go v.chain refl
   where
-    Suits : After Suspension → Type 0
+    Suits : After (Result (Driver × Event) Fault) → Type 0
     Suits o = Tells v (is_awaiting s) (step_number (and_then o deliver_all).answer) (taken o.answer)
 
     t : World
@@ -117,7 +112,7 @@ suspend-number pc s dst x keys v there = go v.chain refl
     found a chain e Absent q = no_both (there a chain e) (ap (λ y. is_running (core_in y).state) q)
     found a chain e (Is k r) q = test (not (fits t (growth t (saved s dst a.floor t) r)))
       where
-        test : (b : Bool) → Suits (pick b (after t (Suspension.Refused Fault.OutOfMemory)) (after (Coro.put_to_sleep a chain (saved s dst a.floor t) x keys r t) (Suspension.Done a.driver (Coro.event_of s x (set_keys keys r)))))
+        test : (b : Bool) → Suits (pick b (after t (Err Fault.OutOfMemory)) (after (Coro.put_to_sleep a chain (saved s dst a.floor t) x keys r t) (Ok (a.driver, Coro.event_of s x (set_keys keys r)))))
         test true = untold refl
         test false =
             let z = Coro.put_to_sleep a chain (saved s dst a.floor t) x keys r t in
@@ -129,7 +124,7 @@ suspend-number pc s dst x keys v there = go v.chain refl
                   ∙ ap (λ cs. told_on cs (coro v) (is_awaiting s)) (sym e);
             }
 
-    above : (a : Active) (chain : List Active) → v.chain ≡ a ∷ chain → (b : Bool) → Suits (pick b (after t (Suspension.Refused Fault.CannotSuspend)) (suspend_coroutine (coro v a.coro) a chain (saved s dst a.floor t) x keys t))
+    above : (a : Active) (chain : List Active) → v.chain ≡ a ∷ chain → (b : Bool) → Suits (pick b (after t (Err Fault.CannotSuspend)) (suspend_coroutine (coro v a.coro) a chain (saved s dst a.floor t) x keys t))
     above a chain e true = untold refl
     above a chain e false = found a chain e (coro v a.coro) refl
 
@@ -139,29 +134,29 @@ suspend-number pc s dst x keys v there = go v.chain refl
 
 -- ---- the three arms
 
-key-number : (pc dst x : ℕ) (o : After AutoKey) → ((f : Fault) → o.answer ≡ AutoKey.Refused f → ok_number (Faults.number_of f) ≡ false)
+key-number : (pc dst x : ℕ) (o : After (Result (ℕ × ℕ) Fault)) → ((f : Fault) → o.answer ≡ Err f → ok_number (Faults.number_of f) ≡ false)
     → Stands o.world → Tells o.world false (step_number (yield_key pc dst x o.world o.answer).answer) (keyed (tries pc CoroState.Yielded dst x) o.world o.answer)
 key-number pc dst x o h there = go o.answer refl
   where
-    go : (a : AutoKey) → o.answer ≡ a → Tells o.world false (step_number (yield_key pc dst x o.world a).answer) (keyed (tries pc CoroState.Yielded dst x) o.world a)
-    go (AutoKey.Key key largest) e = suspend-number pc CoroState.Yielded dst x (Keys.Set key largest) o.world there
-    go (AutoKey.Refused f) e = untold (h f e)
+    go : (a : Result (ℕ × ℕ) Fault) → o.answer ≡ a → Tells o.world false (step_number (yield_key pc dst x o.world a).answer) (keyed (tries pc CoroState.Yielded dst x) o.world a)
+    go (Ok (key, largest)) e = suspend-number pc CoroState.Yielded dst x (Some (key, largest)) o.world there
+    go (Err f) e = untold (h f e)
 
-abbrev bad : AutoKey → Bool
-bad (AutoKey.Key k n) = false
-bad (AutoKey.Refused g) = ok_number (Faults.number_of g)
+abbrev bad : Result (ℕ × ℕ) Fault → Bool
+bad (Ok (k, n)) = false
+bad (Err g) = ok_number (Faults.number_of g)
 
-key-refused : (largest : ℕ) (w : World) (f : Fault) → (auto_key largest w).answer ≡ AutoKey.Refused f → ok_number (Faults.number_of f) ≡ false
+key-refused : (largest : ℕ) (w : World) (f : Fault) → (auto_key largest w).answer ≡ Err f → ok_number (Faults.number_of f) ≡ false
 unfolding auto_key
 key-refused largest w f = go (next_key largest)
   where
-    made : (n : ℕ) (u : World) (m : WordOr) → (encode_int n w).answer ≡ m → (key_at n u m).answer ≡ AutoKey.Refused f → ok_number (Faults.number_of f) ≡ false
-    made n u (WordOr.Word k) q e = sym (ap bad e)
-    made n u (WordOr.Refused g) q e = ap bad (sym e) ∙ refused-at ok_number refl refl refl (refused-int ok_number refl refl refl n w) q
+    made : (n : ℕ) (u : World) (m : Result ℕ Fault) → (encode_int n w).answer ≡ m → (key_at n u m).answer ≡ Err f → ok_number (Faults.number_of f) ≡ false
+    made n u (Ok k) q e = sym (ap bad e)
+    made n u (Err g) q e = ap bad (sym e) ∙ refused-at ok_number refl refl refl (refused-int ok_number refl refl refl n w) q
 
-    go : (x : Exact) → (key_exact x w).answer ≡ AutoKey.Refused f → ok_number (Faults.number_of f) ≡ false
-    go (Exact.Fits n) e = made n (encode_int n w).world (encode_int n w).answer refl e
-    go Exact.Over e = ap bad (sym e)
+    go : (x : Option ℕ) → (key_exact x w).answer ≡ Err f → ok_number (Faults.number_of f) ≡ false
+    go (Some n) e = made n (encode_int n w).world (encode_int n w).answer refl e
+    go None e = ap bad (sym e)
 
 yield-number : (pc dst src : ℕ) (v : World) → Stands v → Tells v false (step_number (yield pc dst src v).answer) (suspends_in (Op.Yield pc dst src) v)
 unfolding yield
@@ -180,17 +175,17 @@ unfolding yield_kv
 yield_kv-number pc dst src key v there = go v.chain
   where
     go : (cs : List Active)
-        → Tells v false (step_number (yield_kv_on cs pc dst src key v).answer) (in_body cs (λ a. tries pc CoroState.Yielded dst (reg v src) v (Keys.Set (reg v key) (larger_of (largest_in (coro v a.coro)) (dyn_int v (reg v key))))))
+        → Tells v false (step_number (yield_kv_on cs pc dst src key v).answer) (in_body cs (λ a. tries pc CoroState.Yielded dst (reg v src) v (Some (reg v key, larger_of (largest_in (coro v a.coro)) (dyn_int v (reg v key))))))
     go [] = untold refl
-    go (a ∷ chain) = suspend-number pc CoroState.Yielded dst (reg v src) (Keys.Set (reg v key) (larger_of (largest_in (coro v a.coro)) (dyn_int v (reg v key)))) v there
+    go (a ∷ chain) = suspend-number pc CoroState.Yielded dst (reg v src) (Some (reg v key, larger_of (largest_in (coro v a.coro)) (dyn_int v (reg v key)))) v there
 
 await-number : (pc dst src : ℕ) (v : World) → Stands v → Tells v true (step_number (await pc dst src v).answer) (suspends_in (Op.Await pc dst src) v)
 unfolding await
 await-number pc dst src v there = go v.chain
   where
-    go : (cs : List Active) → Tells v true (step_number (await_on cs pc dst src v).answer) (in_body cs (λ a. tries pc CoroState.Awaiting dst (reg v src) v Keys.Keep))
+    go : (cs : List Active) → Tells v true (step_number (await_on cs pc dst src v).answer) (in_body cs (λ a. tries pc CoroState.Awaiting dst (reg v src) v None))
     go [] = untold refl
-    go (a ∷ chain) = suspend-number pc CoroState.Awaiting dst (reg v src) Keys.Keep v there
+    go (a ∷ chain) = suspend-number pc CoroState.Awaiting dst (reg v src) None v there
 
 -- ---- the instruction
 
@@ -206,7 +201,7 @@ step-number n (Step.Fault f) = go (eqb (Faults.number_of f) 10) refl
     go false e = refl
 
 instr-number : (w : World) → sound w ≡ true → (p : ℕ) (ok : Bool) (arm : World → After Step) (f : World → Bool) (await : Bool) → ((v : World) → Stands v → Tells v await (step_number (arm v).answer) (f v))
-    → Tells w await (number_of (instruction p ok arm w).answer) (pick (is_nil w.frames) false (pick (not ok) false (paid_by f (charge (OptPc.Some p) w).world (charge (OptPc.Some p) w).answer)))
+    → Tells w await (number_of (instruction p ok arm w).answer) (pick (is_nil w.frames) false (pick (not ok) false (paid_by f (charge (Some p) w).world (charge (Some p) w).answer)))
 unfolding instruction pick
 instr-number w h p ok arm f await owes = gate (is_nil w.frames) (not ok)
   where
@@ -224,10 +219,10 @@ instr-number w h p ok arm f await owes = gate (is_nil w.frames) (not ok)
     paid ch (c-close n c z x t) = untold refl
 
     gate : (a b : Bool)
-        → Tells w await (number_of (pick a (refused w Fault.NoFrame) (pick b (refused w Fault.BadOperand) (and_then (charge (OptPc.Some p) w) (Gate.charged arm)))).answer) (pick a false (pick b false (paid_by f (charge (OptPc.Some p) w).world (charge (OptPc.Some p) w).answer)))
+        → Tells w await (number_of (pick a (refused w Fault.NoFrame) (pick b (refused w Fault.BadOperand) (and_then (charge (Some p) w) (Gate.charged arm)))).answer) (pick a false (pick b false (paid_by f (charge (Some p) w).world (charge (Some p) w).answer)))
     gate true b = untold refl
     gate false true = untold refl
-    gate false false = paid (charge (OptPc.Some p) w) (charge-case p w)
+    gate false false = paid (charge (Some p) w) (charge-case p w)
 
 -- ---- the calls that are after it
 

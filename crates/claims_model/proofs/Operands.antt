@@ -1,7 +1,7 @@
 -- An operation that can be written is one of the model's.
 use mathlib.Core.Path.{◌≡◌, refl}
 use Rattle.model.specs.Call.{typed}
-use Rattle.model.specs.declared.call.OptPc.{OptPc}
+use Rattle.std.specs.Prelude.{Some, None}
 use Rattle.model.specs.declared.call.Op.{Op}
 use Rattle.claims_model.specs.Operands.{operands_fit}
 
@@ -22,8 +22,8 @@ as-typed (Op.CoroKey pc dst c) = refl
 as-typed (Op.CoroResult pc dst c) = refl
 as-typed (Op.IterNext pc has iter val src) = refl
 as-typed (Op.Finish kind x) = refl
-as-typed (Op.Unwind f OptPc.None) = refl
-as-typed (Op.Unwind f (OptPc.Some pc)) = refl
+as-typed (Op.Unwind f None) = refl
+as-typed (Op.Unwind f (Some pc)) = refl
 as-typed (Op.SpawnTask x) = refl
 as-typed (Op.HostCall f) = refl
 as-typed (Op.HostEntry c x) = refl

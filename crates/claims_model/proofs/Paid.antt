@@ -18,7 +18,7 @@ use Rattle.model.specs.Answer.{step_number, number_of}
 use Rattle.model.specs.declared.machine.Charge.{Charge}
 use Rattle.model.specs.declared.machine.Driver.{Driver}
 use Rattle.model.specs.declared.exec.Step.{Step}
-use Rattle.model.specs.declared.call.OptPc.{OptPc}
+use Rattle.std.specs.Prelude.{Some}
 use Rattle.model.specs.declared.call.Answer.{Answer}
 use Rattle.claims_model.specs.Engine.{View, seen_suspended, state_is}
 use Rattle.claims_model.specs.Says.{nothing, closes, fits, Entry, entry, cleaned, banked, charged}
@@ -35,7 +35,7 @@ use Rattle.claims_model.proofs.Numbers.{step-number}
 pub record Paid (pc : ℕ) (w : World) : Type 0 where
   pub left : World
   pub words : ℕ
-  pub is : charge (OptPc.Some pc) w ≡ after left (Charge.Done words)
+  pub is : charge (Some pc) w ≡ after left (Charge.Done words)
   pub alike : Alike pc w left
 
 abbrev hosted : Option Entry → Bool
@@ -44,12 +44,12 @@ hosted (some y) = goes_on y.driver
 
 -- if it would enter a resumed coroutine, whoever that be, it is paid for, and starts no cleanup
 pub paid_for : (w : World) → sound w ≡ true → (pc : ℕ) → ((y : Entry) → charged (view_of w) pc (some y) ≡ some y) → Paid pc w
-paid_for w h pc f = go (charge (OptPc.Some pc) w) refl (charge-case pc w) (sym (f (entry 0 (Driver.Resume 0) nothing pc)) ∙ charged-by w h pc e)
+paid_for w h pc f = go (charge (Some pc) w) refl (charge-case pc w) (sym (f (entry 0 (Driver.Resume 0) nothing pc)) ∙ charged-by w h pc e)
   where
     e : E.Entry
     e = E.entry 0 (Driver.Resume 0) nothing
 
-    go : (ch : After Charge) → charge (OptPc.Some pc) w ≡ ch → ChargeCase pc w ch → told pc e ≡ told pc (E.charged ch.answer w e) → Paid pc w
+    go : (ch : After Charge) → charge (Some pc) w ≡ ch → ChargeCase pc w ch → told pc e ≡ told pc (E.charged ch.answer w e) → Paid pc w
     go ch q (c-done n v r) s = record { left = v; words = n; is = q; alike = alike r }
     go ch q (c-spent v r) s = no_both refl (ap hosted s)
     go ch q (c-close n u z x t) s = no_both refl (ap hosted (s ∙ ap (told pc) x))
@@ -58,7 +58,7 @@ paid_for w h pc f = go (charge (OptPc.Some pc) w) refl (charge-case pc w) (sym (
 pub paid-number : (w : World) (pc : ℕ) (p : Paid pc w) (ok : Bool) (arm : World → After Step) → is_nil w.frames ≡ false → ok ≡ true → (instruction pc ok arm w).answer ≡ answer_of p.words (arm p.left).answer
 unfolding instruction
 paid-number w pc p ok arm stand o =
-    let tail = and_then (charge (OptPc.Some pc) w) (Gate.charged arm) in
+    let tail = and_then (charge (Some pc) w) (Gate.charged arm) in
     ap (λ b. (pick b (refused w Fault.NoFrame) (pick (not ok) (refused w Fault.BadOperand) tail)).answer) stand
     ∙ (ap (λ (x : After Answer). x.answer) (pick-false (refused w Fault.NoFrame) (pick (not ok) (refused w Fault.BadOperand) tail))
     ∙ (ap (λ b. (pick (not b) (refused w Fault.BadOperand) tail).answer) o
@@ -77,16 +77,16 @@ pub zero-went : (w : World) (pc : ℕ) (ok : Bool) (arm : World → After Step) 
 unfolding instruction pick
 zero-went w pc ok arm = gate (is_nil w.frames) refl ok refl
   where
-    spent : (ch : After Charge) → charge (OptPc.Some pc) w ≡ ch → ChargeCase pc w ch → is_nil w.frames ≡ false → ok ≡ true → number_of (Gate.charged arm ch.world ch.answer).answer ≡ 0 → Went pc ok arm w
+    spent : (ch : After Charge) → charge (Some pc) w ≡ ch → ChargeCase pc w ch → is_nil w.frames ≡ false → ok ≡ true → number_of (Gate.charged arm ch.world ch.answer).answer ≡ 0 → Went pc ok arm w
     spent ch q (c-done n v r) s o h = record { stands = s; within = o; paid = record { left = v; words = n; is = q; alike = alike r }; number = sym (step-number n (arm v).answer) ∙ h }
     spent ch q (c-spent v r) s o h = absurd (omega (arith, h))
     spent ch q (c-close n u z x t) s o h = absurd (omega (arith, h))
 
     gate : (a : Bool) → is_nil w.frames ≡ a → (b : Bool) → ok ≡ b
-        → number_of (pick a (refused w Fault.NoFrame) (pick (not b) (refused w Fault.BadOperand) (and_then (charge (OptPc.Some pc) w) (Gate.charged arm)))).answer ≡ 0 → Went pc ok arm w
+        → number_of (pick a (refused w Fault.NoFrame) (pick (not b) (refused w Fault.BadOperand) (and_then (charge (Some pc) w) (Gate.charged arm)))).answer ≡ 0 → Went pc ok arm w
     gate true e b q h = absurd (omega (arith, h))
     gate false e false q h = absurd (omega (arith, h))
-    gate false e true q h = spent (charge (OptPc.Some pc) w) refl (charge-case pc w) e q h
+    gate false e true q h = spent (charge (Some pc) w) refl (charge-case pc w) e q h
 
 -- no cleanup is due, whatever the pc
 none-cleaned : (v : View) (pc p : ℕ) (q : List ℕ) → cleaned v pc q ≡ none → cleaned v p q ≡ none

@@ -11,7 +11,7 @@ use borrow.Author.Tests.{eq-eqb, not-true}
 use Rattle.lists.specs.Pick.{pick}
 use Rattle.heap.specs.Table.{slot}
 use Rattle.heap.specs.Fault as Faults
-use Rattle.heap.specs.declared.heap.Place.{Place}
+use Rattle.std.specs.Prelude.{Option, Result, Some, None, Ok, Err}
 use Rattle.heap.specs.declared.fault.Fault.{Fault}
 use Rattle.heap.specs.declared.object.CoroState.{CoroState}
 use Rattle.heap.specs.declared.heap.ResultKind.{ResultKind}
@@ -33,10 +33,7 @@ use Rattle.model.specs.Compute.{computed}
 use Rattle.model.specs.declared.machine.Cont.{Cont}
 use Rattle.model.specs.declared.machine.Driver.{Driver}
 use Rattle.model.specs.declared.machine.Frame.{Frame}
-use Rattle.model.specs.declared.coro.WordOr.{WordOr}
-use Rattle.heap.specs.declared.value.Opt.{Opt}
 use Rattle.model.specs.declared.machine.Fuel.{Fuel}
-use Rattle.model.specs.declared.call.OptPc.{OptPc}
 use Rattle.model.specs.declared.call.Op.{Op}
 use Rattle.model.specs.declared.call.Answer.{Answer}
 use Rattle.claims_invariant.specs.Kept.{raises}
@@ -94,9 +91,9 @@ kept w (SetUp s) h = go (setup_ok s) refl
 other-fuel : (w : World) (f : Fuel) → fuel_sound f ≡ true → sound w ≡ true → sound (with_fuel f w) ≡ true
 other-fuel w f e h = →sound (with_fuel f w) (fuel-move w f w.finalizing (sound→ w h (λ z. no_both z refl)) (go f.bank e))
   where
-    go : (b : Opt) → (unbanked b || eqb f.fuel 0) ≡ true → (is_none b || eqb f.fuel 0) ≡ true
-    go Opt.None e = e
-    go (Opt.Some n) e = e
+    go : (b : Option ℕ) → (unbanked b || eqb f.fuel 0) ≡ true → (is_none b || eqb f.fuel 0) ≡ true
+    go None e = e
+    go (Some n) e = e
 
 unraised : (v : Engine.View) (f : Fault) → raisable f ≡ false → raised v f ≡ none
 unraised v Fault.None h = refl
@@ -145,7 +142,7 @@ soundness =
 
 -- ---- acceptance
 
-plain-made : {A : Type 0} (kind : ResultKind) (x : ℕ) (w : World) (g : Fault) → plain kind ≡ true → (to_dyn kind x w).answer ≡ WordOr.Refused g → A
+plain-made : {A : Type 0} (kind : ResultKind) (x : ℕ) (w : World) (g : Fault) → plain kind ≡ true → (to_dyn kind x w).answer ≡ Err g → A
 unfolding to_dyn
 plain-made ResultKind.None x w g p e = let z : ◌≡◌ {A = ℕ} 0 1 = cc in absurd (omega arith)
 plain-made ResultKind.Dyn x w g p e = let z : ◌≡◌ {A = ℕ} 0 1 = cc in absurd (omega arith)
@@ -153,18 +150,18 @@ plain-made ResultKind.I64 x w g p e = no_both p refl
 plain-made ResultKind.U64 x w g p e = no_both p refl
 
 -- a finish whose result is made, where the frame stands and where it is gone
-finish-zero : (kind : ResultKind) (x : ℕ) (w : World) → ((g : Fault) → (to_dyn kind x w).answer ≡ WordOr.Refused g → ⊥) → ((f : Frame) (fs : List Frame) (g : Fault) → (to_dyn kind x (pop_to f fs w)).answer ≡ WordOr.Refused g → ⊥)
+finish-zero : (kind : ResultKind) (x : ℕ) (w : World) → ((g : Fault) → (to_dyn kind x w).answer ≡ Err g → ⊥) → ((f : Frame) (fs : List Frame) (g : Fault) → (to_dyn kind x (pop_to f fs w)).answer ≡ Err g → ⊥)
     → number_of (finish kind x w).answer ≡ 0
 unfolding finish apply_cont pick
 finish-zero kind x w here gone = go w.frames
   where
-    dyn : (f : Frame) (fs : List Frame) (dst : ℕ) (m : WordOr) → (to_dyn kind x (pop_to f fs w)).answer ≡ m → number_of (and_then (write_made dst (to_dyn kind x (pop_to f fs w)).world m) resume_in).answer ≡ 0
-    dyn f fs dst (WordOr.Word y) e = refl
-    dyn f fs dst (WordOr.Refused g) e = absurd (gone f fs g e)
+    dyn : (f : Frame) (fs : List Frame) (dst : ℕ) (m : Result ℕ Fault) → (to_dyn kind x (pop_to f fs w)).answer ≡ m → number_of (and_then (write_made dst (to_dyn kind x (pop_to f fs w)).world m) resume_in).answer ≡ 0
+    dyn f fs dst (Ok y) e = refl
+    dyn f fs dst (Err g) e = absurd (gone f fs g e)
 
-    body : (f : Frame) (fs : List Frame) (m : WordOr) → (to_dyn kind x w).answer ≡ m → number_of (return_made f fs (to_dyn kind x w).world m).answer ≡ 0
-    body f fs (WordOr.Word y) e = refl
-    body f fs (WordOr.Refused g) e = absurd (here g e)
+    body : (f : Frame) (fs : List Frame) (m : Result ℕ Fault) → (to_dyn kind x w).answer ≡ m → number_of (return_made f fs (to_dyn kind x w).world m).answer ≡ 0
+    body f fs (Ok y) e = refl
+    body f fs (Err g) e = absurd (here g e)
 
     top : (c : Cont) (f : Frame) (fs : List Frame) → number_of (finish_as c f fs kind x w).answer ≡ 0
     top Cont.Entry f fs = refl
@@ -191,19 +188,19 @@ accepts-integer w k kind x h e m p =
     finish-call w k kind x h e (λ l. finish-zero kind x w (can-make w kind x l p m.bytes m.slot) (λ f fs. can-make (pop_to f fs w) kind x l p m.bytes m.slot))
 
 -- an unwind at a machine that is not refused
-unwinds : (w : World) (k : Call) (f : Fault) (pc : OptPc) → sound w ≡ true → model_op k ≡ some (Op.Unwind f pc) → number_of (step w k).answer ≡ number_of (unwind f pc w).answer
+unwinds : (w : World) (k : Call) (f : Fault) (pc : Option ℕ) → sound w ≡ true → model_op k ≡ some (Op.Unwind f pc) → number_of (step w k).answer ≡ number_of (unwind f pc w).answer
 unfolding call
 unwinds w (SetUp s) f pc h e = let z : ◌≡◌ {A = ℕ} 0 1 = cc in absurd (omega arith)
 unwinds w (Do o) f pc h e = ap number_of (number-sound w o h) ∙ ap (λ p. number_of (call p w).answer) (some-op e)
 
-accepts-throw : (w : World) (k : Call) (x : ℕ) (pc : OptPc) → Healthy steps w → model_op k ≡ some (Op.Unwind (Fault.Throw x) pc) → number_of (step w k).answer ≡ unwind_number_at (view_of w) x pc
+accepts-throw : (w : World) (k : Call) (x : ℕ) (pc : Option ℕ) → Healthy steps w → model_op k ≡ some (Op.Unwind (Fault.Throw x) pc) → number_of (step w k).answer ≡ unwind_number_at (view_of w) x pc
 accepts-throw w k x pc h e = unwinds w k (Fault.Throw x) pc (healthy-sound w h) e ∙ throw-answer w (healthy-sound w h) x pc
 
-accepts-raise : (w : World) (k : Call) (f : Fault) (pc : OptPc) (x : ℕ) → Healthy steps w → model_op k ≡ some (Op.Unwind f pc) → ((y : ℕ) → f ≡ Fault.Throw y → ⊥) → raised (view_of w) f ≡ some x
+accepts-raise : (w : World) (k : Call) (f : Fault) (pc : Option ℕ) (x : ℕ) → Healthy steps w → model_op k ≡ some (Op.Unwind f pc) → ((y : ℕ) → f ≡ Fault.Throw y → ⊥) → raised (view_of w) f ≡ some x
     → let v = view_of w in number_of (step w k).answer ≡ pick (bytes_fit v v.rules.error_cost) (pick v.full 14 (unwind_number_at v x pc)) 9
 accepts-raise w k f pc x h e n q = unwinds w k f pc (healthy-sound w h) e ∙ raise-answer w (healthy-sound w h) f pc x n q
 
-accepts-pass : (w : World) (k : Call) (f : Fault) (pc : OptPc) → Healthy steps w → model_op k ≡ some (Op.Unwind f pc) → raised (view_of w) f ≡ none
+accepts-pass : (w : World) (k : Call) (f : Fault) (pc : Option ℕ) → Healthy steps w → model_op k ≡ some (Op.Unwind f pc) → raised (view_of w) f ≡ none
     → number_of (step w k).answer ≡ pick (eqb (Faults.number_of f) 9 || eqb (Faults.number_of f) 10) (Faults.number_of f) 11
 accepts-pass w k f pc h e q = unwinds w k f pc (healthy-sound w h) e ∙ pass-answer w (healthy-sound w h) f pc q
 
@@ -217,9 +214,9 @@ begins-fresh s = record { stack = refl; frames = refl; chain = refl; coros = λ 
     at n (f ∷ fs) zero = refl
     at n (f ∷ fs) (suc i) = at (suc n) fs i
 
-    no-loops : (p : Place) → is_done (object_at (function_objects 0 s.functions) p) ≡ false
-    no-loops Place.Nothing = refl
-    no-loops (Place.At i) = at 0 s.functions i
+    no-loops : (p : Option ℕ) → is_done (object_at (function_objects 0 s.functions) p) ≡ false
+    no-loops None = refl
+    no-loops (Some i) = at 0 s.functions i
 
 set-up-begun : (w : World) (k : Call) → Restarts steps w k → Fresh (view_of (step w k).world)
 unfolding step pick

@@ -14,9 +14,8 @@ use Rattle.heap.specs.Coding.{of_bits}
 use Rattle.heap.specs.Int.{inline_of, exactly, value_of, next_key}
 use Rattle.heap.specs.Table.{push_object, next_word}
 use Rattle.heap.specs.declared.fault.Fault.{Fault}
-use Rattle.heap.specs.declared.value.Opt.{Opt}
-use Rattle.heap.specs.declared.int.Exact.{Exact}
-use Rattle.heap.specs.declared.int.Inline.{Inline}
+use Rattle.std.specs.Prelude.{Option as RustOption, Result, Some, None, Ok, Err}
+use Rattle.heap.specs.declared.value.Word.{Word}
 use Rattle.heap.specs.declared.int.IntTy.{IntTy}
 use Rattle.heap.specs.declared.object.CoroState.{CoroState}
 use Rattle.model.specs.State.{is_created}
@@ -28,7 +27,6 @@ use Rattle.model.specs.Heap.{object, coro, change_as, change_coro, change_iter_i
 use Rattle.model.specs.Rows.{rows_full, free_row}
 use Rattle.model.specs.Coro.{new_regs, new_core, new_rest, coro_create, in_state, ended, finish_coroutine}
 use Rattle.model.specs.Exec.{key_exact, key_at, auto_key, indirect_to, indirect, window}
-use Rattle.model.specs.declared.coro.WordOr.{WordOr}
 use Rattle.heap.specs.declared.heap.ResultKind.{ResultKind}
 use Rattle.claims_model.specs.Delivery.{recorded}
 use Rattle.claims_model.specs.Touches.{May}
@@ -77,7 +75,7 @@ alloc-grown bytes o w b m = go (not (fits w bytes)) (slots_full w)
     found c (inl e) = inl (ap as_coro e)
     found c (inr e) = inr (ap as_coro e.0, ap (λ x. is_created (core_in (as_coro x)).state) e.1 ∙ b, ap (λ x. (core_in (as_coro x)).closing) e.1 ∙ m)
 
-    go : (x y : Bool) → Grown w (pick x (refuse w Fault.OutOfMemory) (pick y (refuse w Fault.Full) (after (with_used (sat_add w.used bytes) (with_slots (push_object w.slots o) w)) (WordOr.Word (next_word w.slots))))).world
+    go : (x y : Bool) → Grown w (pick x (refuse w Fault.OutOfMemory) (pick y (refuse w Fault.Full) (after (with_used (sat_add w.used bytes) (with_slots (push_object w.slots o) w)) (Ok (next_word w.slots))))).world
     go true y = grown-none
     go false true = grown-none
     go false false = record { setup = refl; stack = refl; frames = refl; chain = refl; finds = λ c. found c (push-cases w.slots o c) }
@@ -89,7 +87,7 @@ create-grown f closure args w = go (not (fits w (8 * n + w.setup.costs.coro + w.
     n : ℕ
     n = (func w.setup f).regs
 
-    made : After WordOr
+    made : After (Result ℕ Fault)
     made = alloc (8 * n + w.setup.costs.object + w.setup.costs.frame) (Object.Coro (new_core f closure (new_regs n args)) (new_rest w.seq (free_row w) n)) (with_seq ((w.seq + 1) % 2 ^ 64) w)
 
     inner : Grown w made.world
@@ -124,7 +122,7 @@ alloc_same bytes o w b = go (not (fits w bytes)) (slots_full w)
     found c (inl e) = ap as_coro e
     found c (inr e) = ap as_coro e.1 ∙ b ∙ sym (ap as_coro e.0)
 
-    go : (x y : Bool) → Same w (pick x (refuse w Fault.OutOfMemory) (pick y (refuse w Fault.Full) (after (with_used (sat_add w.used bytes) (with_slots (push_object w.slots o) w)) (WordOr.Word (next_word w.slots))))).world
+    go : (x y : Bool) → Same w (pick x (refuse w Fault.OutOfMemory) (pick y (refuse w Fault.Full) (after (with_used (sat_add w.used bytes) (with_slots (push_object w.slots o) w)) (Ok (next_word w.slots))))).world
     go true y = same_none
     go false true = same_none
     go false false = record { setup = refl; stack = refl; frames = refl; chain = refl; coros = λ c. found c (push-cases w.slots o c) }
@@ -132,13 +130,13 @@ alloc_same bytes o w b = go (not (fits w bytes)) (slots_full w)
 pub encode_same : (n : ℕ) (w : World) → Same w (encode_int n w).world
 encode_same n w = go (inline_of (of_bits 63 n))
   where
-    go : (x : Inline) → Same w (encode_at x n w).world
-    go (Inline.At x) = same_none
-    go Inline.Large = alloc_same w.setup.costs.int (Object.Int n) w refl
+    go : (x : RustOption Word) → Same w (encode_at x n w).world
+    go (Some x) = same_none
+    go None = alloc_same w.setup.costs.int (Object.Int n) w refl
 
-exact_same : (x : Exact) (w : World) → Same w (encode_exact x w).world
-exact_same (Exact.Fits n) w = encode_same n w
-exact_same Exact.Over w = same_none
+exact_same : (x : RustOption ℕ) (w : World) → Same w (encode_exact x w).world
+exact_same (Some n) w = encode_same n w
+exact_same None w = same_none
 
 pub dyn-same : (kind : ResultKind) (v : ℕ) (w : World) → Same w (to_dyn kind v w).world
 unfolding to_dyn
@@ -151,16 +149,16 @@ pub key-same : (largest : ℕ) (w : World) → Same w (auto_key largest w).world
 unfolding auto_key
 key-same largest w = go (next_key largest)
   where
-    made : (n : ℕ) (o : After WordOr) → Same w o.world → Same w (key_at n o.world o.answer).world
+    made : (n : ℕ) (o : After (Result ℕ Fault)) → Same w o.world → Same w (key_at n o.world o.answer).world
     made n o g = cases o.answer
       where
-        cases : (m : WordOr) → Same w (key_at n o.world m).world
-        cases (WordOr.Word k) = g
-        cases (WordOr.Refused f) = g
+        cases : (m : Result ℕ Fault) → Same w (key_at n o.world m).world
+        cases (Ok k) = g
+        cases (Err f) = g
 
-    go : (x : Exact) → Same w (key_exact x w).world
-    go (Exact.Fits n) = made n (encode_int n w) (encode_same n w)
-    go Exact.Over = same_none
+    go : (x : RustOption ℕ) → Same w (key_exact x w).world
+    go (Some n) = made n (encode_int n w) (encode_same n w)
+    go None = same_none
 
 pub indirect-grown : (dst callee argc : ℕ) (w : World) → Grown w (indirect dst callee argc w).world
 unfolding indirect pick
@@ -194,7 +192,7 @@ pub record Calm (w v : World) : Type 0 where
 pub calm-worked : {m : Option May} {b : Mode} {w v : World} → Calm w v → {z : View} → Worked m b (view v) z → Worked m b (view w) z
 calm-worked {m} {b} {w} {v} g {z} t = subst (λ x. Worked m b x z) (λ i. record { setup = g.setup i; stack = g.stack i; frames = g.frames i; chain = g.chain i; cores = λ c. g.cores c i }) t
 
-iter-calm : (v : ℕ) (f : Bool → Bool) (g : Opt → Opt) (w : World) → Calm w (change_iter_in (object w v) v f g w)
+iter-calm : (v : ℕ) (f : Bool → Bool) (g : RustOption ℕ → RustOption ℕ) (w : World) → Calm w (change_iter_in (object w v) v f g w)
 iter-calm v f g w = go (object w v) refl
   where
     none : Calm w w
@@ -212,7 +210,7 @@ pub done-calm : (v : ℕ) (w : World) → Calm w (set_done v w)
 done-calm v w = iter-calm v (λ _. true) (λ k. k) w
 
 pub key-calm : (v key : ℕ) (w : World) → Calm w (set_key v key w)
-key-calm v key w = iter-calm v (λ d. d) (λ _. Opt.Some key) w
+key-calm v key w = iter-calm v (λ d. d) (λ _. Some key) w
 
 -- ---- the end of a coroutine
 

@@ -16,7 +16,7 @@ use Rattle.model.specs.Added.{stop_run}
 use Rattle.model.specs.Sound.{sound}
 use Rattle.model.specs.Call.{Call}
 use Rattle.model.specs.Step.{call}
-use Rattle.model.specs.declared.call.OptPc.{OptPc}
+use Rattle.std.specs.Prelude.{Option as RustOption}
 use Rattle.model.specs.declared.call.Op.{Op}
 use Rattle.claims_model.specs.Engine.{Seen}
 use Rattle.claims_model.specs.Events as Said
@@ -35,7 +35,7 @@ use Rattle.claims_model.proofs.Failures.{is_failed, run-fails}
 use Rattle.claims_model.proofs.Losses.{unwound, not-apart, is-failed}
 
 module _ (w : World) (h : sound w ≡ true) (c : ℕ) (r : is_running (core_at w c).state ≡ true) where
-  unwind-spoils : (f : Fault) (pc : OptPc) (x : ℕ) → raised (view_of w) f ≡ some x → is_failed (core_at (call (Op.Unwind f pc) w).world c).state ≡ true → (core_at (call (Op.Unwind f pc) w).world c).seen ≡ ended_as CoroState.Failed x
+  unwind-spoils : (f : Fault) (pc : RustOption ℕ) (x : ℕ) → raised (view_of w) f ≡ some x → is_failed (core_at (call (Op.Unwind f pc) w).world c).state ≡ true → (core_at (call (Op.Unwind f pc) w).world c).seen ≡ ended_as CoroState.Failed x
   unfolding call
   unwind-spoils f pc x e l =
       let t = (unwound w h f pc).lost c r l in
@@ -68,7 +68,7 @@ by_call c w p y k g o f = go (next w k) (step_case w k) o (sym (is-failed (next 
     go z (same k e) o a = no_both a (run-fails (core_at w c).state ran)
     go z (Claim.does j e) o a = sym (seen_at z c) ∙ subst (λ q. is_failed (core_at (call q w).world c).state ≡ true → (core_at (call q w).world c).seen ≡ y) (sym (some-op o)) (f e ran) a
 
-pub spoilt : (c : ℕ) (w : World) (k : Call) (f : Fault) (pc : OptPc) (x : ℕ) → Said.Fails steps c w k → model_op k ≡ some (Op.Unwind f pc) → raised (view_of w) f ≡ some x → (view_of (next w k)).coro c ≡ ended_as CoroState.Failed x
+pub spoilt : (c : ℕ) (w : World) (k : Call) (f : Fault) (pc : RustOption ℕ) (x : ℕ) → Said.Fails steps c w k → model_op k ≡ some (Op.Unwind f pc) → raised (view_of w) f ≡ some x → (view_of (next w k)).coro c ≡ ended_as CoroState.Failed x
 spoilt c w k f pc x g o e = by_call c w (Op.Unwind f pc) (ended_as CoroState.Failed x) k g o (λ h r l. unwind-spoils w h c r f pc x e l)
 
 pub stopped : (c : ℕ) (w : World) (k : Call) → Said.Fails steps c w k → model_op k ≡ some Op.StopRun → (view_of (next w k)).coro c ≡ ended_as CoroState.Failed 0

@@ -15,7 +15,8 @@ use Rattle.heap.specs.Table.{Slot}
 use Rattle.heap.specs.declared.fault.Fault.{Fault}
 use Rattle.heap.specs.declared.object.CoroState.{CoroState}
 use Rattle.heap.specs.declared.value.Class.{Class}
-use Rattle.heap.specs.declared.heap.Place.{Place}
+use Rattle.std.specs.Prelude.{Option, Result, Some, None, Ok, Err}
+use Rattle.model.specs.declared.coro.Entered.{Entered}
 use Rattle.model.specs.Lists.{is_nil}
 use Rattle.model.specs.State.{is_created, is_resumable, is_awaiting, is_returned}
 use Rattle.model.specs.Object.{Object, Coroutine, Absent, Is, is_done}
@@ -36,9 +37,7 @@ use Rattle.model.specs.Step as M
 use Rattle.model.specs.Step.{call, tested, step}
 use Rattle.model.specs.declared.machine.Driver.{Driver}
 use Rattle.model.specs.declared.machine.Charge.{Charge}
-use Rattle.model.specs.declared.coro.Entered.{Entered}
 use Rattle.model.specs.declared.exec.Step.{Step}
-use Rattle.model.specs.declared.call.OptPc.{OptPc}
 use Rattle.model.specs.declared.call.Op.{Op}
 use Rattle.claims_model.specs.Engine.{seen_returned, seen_in, state_is}
 use Rattle.claims_model.specs.Says.{register_word, Sent, gets}
@@ -59,14 +58,14 @@ use Rattle.claims_model.proofs.Exact.{number-sound, some-op}
 -- ---- coro_enter refuses by 1 to 4: where its tail answers another number, it accepts
 
 module _ (n : ℕ) (no : (x : ℕ) → ltb 0 x ≡ true → leb x 4 ≡ true → x ≡ n → ⊥) where
-  pub absent-number : (c : Class) (p : Place) → Faults.number_of (Table.not_a c p) ≡ n → ⊥
+  pub absent-number : (c : Class) (p : Option ℕ) → Faults.number_of (Table.not_a c p) ≡ n → ⊥
   absent-number Class.Nil p h = no 1 refl refl h
-  absent-number (Class.Ref o) Place.Nothing h = no 1 refl refl h
-  absent-number (Class.Ref o) (Place.At i) h = no 2 refl refl h
+  absent-number (Class.Ref o) None h = no 1 refl refl h
+  absent-number (Class.Ref o) (Some i) h = no 2 refl refl h
   absent-number (Class.Int z) p h = no 2 refl refl h
   absent-number Class.Opaque p h = no 2 refl refl h
 
-  module _ {A : Type 0} (num : A → ℕ) (f : World → Entered → After A) (out : (w : World) (g : Fault) → num (f w (Entered.Refused g)).answer ≡ Faults.number_of g) where
+  module _ {A : Type 0} (num : A → ℕ) (f : World → Result Entered Fault → After A) (out : (w : World) (g : Fault) → num (f w (Err g)).answer ≡ Faults.number_of g) where
     pub accepted-by : (c : ℕ) (d : Driver) (u : World) → num (and_then (coro_enter c d u) f).answer ≡ n → accepts u c ≡ true
     unfolding coro_enter pick
     accepted-by c d u h = go (coro u c) h
@@ -76,7 +75,7 @@ module _ (n : ℕ) (no : (x : ℕ) → ltb 0 x ≡ true → leb x 4 ≡ true →
         go (Is k r) q = tests (is_resumable k.state) (is_nil k.frames) (overflows k u) q
           where
             tests : (a b o : Bool)
-                → num (and_then (pick (not a || b) (after u (Entered.Refused Fault.InvalidCoroState)) (pick o (after u (Entered.Refused Fault.StackOverflow)) (after (entered c d k r u) (pick (is_created k.state) Entered.Fresh (Entered.Suspended k.waiting))))) f).answer ≡ n
+                → num (and_then (pick (not a || b) (after u (Err Fault.InvalidCoroState)) (pick o (after u (Err Fault.StackOverflow)) (after (entered c d k r u) (pick (is_created k.state) (Ok Entered.Fresh) (Ok (Entered.Suspended k.waiting)))))) f).answer ≡ n
                 → (a && not b && not o) ≡ true
             tests false b o q = absurd (no 3 refl refl (sym (out u Fault.InvalidCoroState) ∙ q))
             tests true true o q = absurd (no 3 refl refl (sym (out u Fault.InvalidCoroState) ∙ q))
@@ -117,11 +116,11 @@ instr-own w c o p ok F arm e owes h = subst (λ x. Own c (entry_by x w)) (sym e)
     paid ch (c-spent v r) h = absurd (omega (arith, h))
     paid ch (c-close n u z x t) h = absurd (omega (arith, h))
 
-    gate : (a b : Bool) → number_of (pick a (refused w Fault.NoFrame) (pick (not b) (refused w Fault.BadOperand) (and_then (charge (OptPc.Some p) w) (Gate.charged arm)))).answer ≡ 0
-        → Own c (pick a E.nobody (pick (not b) E.nobody (E.charged (charge (OptPc.Some p) w).answer w (aimed (aim w) w))))
+    gate : (a b : Bool) → number_of (pick a (refused w Fault.NoFrame) (pick (not b) (refused w Fault.BadOperand) (and_then (charge (Some p) w) (Gate.charged arm)))).answer ≡ 0
+        → Own c (pick a E.nobody (pick (not b) E.nobody (E.charged (charge (Some p) w).answer w (aimed (aim w) w))))
     gate true b h = absurd (omega (arith, h))
     gate false false h = absurd (omega (arith, h))
-    gate false true h = paid (charge (OptPc.Some p) w) (charge-case p w) h
+    gate false true h = paid (charge (Some p) w) (charge-case p w) h
 
 reg-alike : {p : ℕ} {w v : World} → Alike p w v → (q : ℕ) → reg v q ≡ reg w q
 reg-alike a q = λ i. get_or (a.stack i) (a.base i + q) 0

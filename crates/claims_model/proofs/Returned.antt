@@ -22,7 +22,7 @@ use Rattle.model.specs.Call.{Call, SetUp, Do}
 use Rattle.model.specs.Step.{call, step, told}
 use Rattle.model.specs.declared.machine.Cont.{Cont}
 use Rattle.model.specs.declared.machine.Frame.{Frame}
-use Rattle.model.specs.declared.call.OptPc.{OptPc}
+use Rattle.std.specs.Prelude.{Option as RustOption}
 use Rattle.model.specs.declared.call.Op.{Op}
 use Rattle.model.specs.declared.call.Answer.{Answer}
 use Rattle.claims_model.specs.Says.{Announced, finishes, announced, announced_by, Entry}
@@ -263,11 +263,11 @@ ended-told w c {o} (e-returns u f fs a chain t r n) b l = go (ℕ_discrete c a.c
     go (yes q) = ap (λ y. recorded (core_at o.world y).seen) q ∙ r.told (ap (λ y. is_returned (core_at o.world y).state) (sym q) ∙ l)
     go (no q) = no_both l (ap (λ y. is_returned y.state) (r.ends.others c q) ∙ going-not (going-worked c t (runs b)))
 
-unwind-told : (f : Fault) (pc : OptPc) (w : World) (c : ℕ) → sound w ≡ true → is_running (core_at w c).state ≡ true → let z = (call (Op.Unwind f pc) w).world in is_returned (core_at z c).state ≡ true → recorded (core_at z c).seen ≡ 0
+unwind-told : (f : Fault) (pc : RustOption ℕ) (w : World) (c : ℕ) → sound w ≡ true → is_running (core_at w c).state ≡ true → let z = (call (Op.Unwind f pc) w).world in is_returned (core_at z c).state ≡ true → recorded (core_at z c).seen ≡ 0
 unfolding call
 unwind-told f pc w c h b l = ended-told w c (unwind-ended w h f pc) b l
 
-pub closed : (c : ℕ) (w : World) (k : Call) (f : Fault) (pc : OptPc) → Said.Returns steps c w k → model_op k ≡ some (Op.Unwind f pc) → recorded ((view_of (next w k)).coro c) ≡ 0
+pub closed : (c : ℕ) (w : World) (k : Call) (f : Fault) (pc : RustOption ℕ) → Said.Returns steps c w k → model_op k ≡ some (Op.Unwind f pc) → recorded ((view_of (next w k)).coro c) ≡ 0
 closed c w k f pc g e = ap recorded (sym (seen_at (next w k) c)) ∙ go (next w k) (step_case w k) (sym (is-ended (next w k) c) ∙ g.after) e
   where
     ran : is_running (core_at w c).state ≡ true

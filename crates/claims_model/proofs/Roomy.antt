@@ -14,8 +14,9 @@ use Rattle.heap.specs.Coding.{of_bits}
 use Rattle.heap.specs.Int.{inline_of, next_key}
 use Rattle.heap.specs.Table.{push_object, next_word}
 use Rattle.heap.specs.declared.fault.Fault.{Fault}
-use Rattle.heap.specs.declared.int.Exact.{Exact}
-use Rattle.heap.specs.declared.int.Inline.{Inline}
+use Rattle.std.specs.Prelude.{Option as RustOption, Result, Some, None, Ok, Err}
+use Rattle.model.specs.declared.coro.Event.{Event}
+use Rattle.heap.specs.declared.value.Word.{Word}
 use Rattle.heap.specs.declared.object.CoroState.{CoroState}
 use Rattle.model.specs.Lists.{is_nil}
 use Rattle.model.specs.Object.{Core, Rest, Object, Coroutine, Absent, Is}
@@ -36,11 +37,7 @@ use Rattle.model.specs.declared.machine.Active.{Active}
 use Rattle.model.specs.declared.machine.Charge.{Charge}
 use Rattle.model.specs.declared.machine.Driver.{Driver}
 use Rattle.model.specs.declared.machine.Frame.{Frame}
-use Rattle.model.specs.declared.coro.WordOr.{WordOr}
-use Rattle.model.specs.declared.coro.Keys.{Keys}
-use Rattle.model.specs.declared.coro.Suspension.{Suspension}
 use Rattle.model.specs.declared.exec.Step.{Step}
-use Rattle.model.specs.declared.call.OptPc.{OptPc}
 use Rattle.model.specs.declared.call.Op.{Op}
 use Rattle.model.specs.declared.call.Answer.{Answer}
 use Rattle.claims_model.specs.Engine.{Seen}
@@ -119,7 +116,7 @@ module _ (w : World) (n c : ℕ) (m : Roomy steps n c w) where
   t = record { over = m.held.over; body = m.held.body; under = m.held.under; frames = m.held.frames; its_own = m.held.its_own; floor = refl }
 
   -- at u, which is w but for the pc, n bytes at most and an object; its own words are as they were
-  module _ (u : World) (pc : ℕ) (same : Near pc w u) (paid : u.used ≤ w.used + n) (dst x : ℕ) (st : CoroState) (keys : Keys) where
+  module _ (u : World) (pc : ℕ) (same : Near pc w u) (paid : u.used ≤ w.used + n) (dst x : ℕ) (st : CoroState) (keys : RustOption (ℕ × ℕ)) where
     abbrev v : World
     v = store_pc pc u
 
@@ -151,15 +148,15 @@ module _ (w : World) (n c : ℕ) (m : Roomy steps n c w) where
     unfolding most_words most_frames
     found Absent q = let z : ◌≡◌ {A = ℕ} 0 1 = cc in absurd (omega arith)
     found (Is k r) q =
-        ap (λ b. taken (pick (not b) (after v (Suspension.Refused Fault.OutOfMemory)) (after (Coro.put_to_sleep a m.held.outer K x keys r v) (Suspension.Done a.driver (Coro.event_of st x (Coro.set_keys keys r))))).answer) (fits-still r (sym (ap most_words q)) (sym (ap most_frames q)))
-        ∙ ap (λ (y : After Suspension). taken y.answer) (pick-false (after v (Suspension.Refused Fault.OutOfMemory)) (after (Coro.put_to_sleep a m.held.outer K x keys r v) (Suspension.Done a.driver (Coro.event_of st x (Coro.set_keys keys r)))))
+        ap (λ b. taken (pick (not b) (after v (Err Fault.OutOfMemory)) (after (Coro.put_to_sleep a m.held.outer K x keys r v) (Ok (a.driver, Coro.event_of st x (Coro.set_keys keys r))))).answer) (fits-still r (sym (ap most_words q)) (sym (ap most_frames q)))
+        ∙ ap (λ (y : After (Result (Driver × Event) Fault)). taken y.answer) (pick-false (after v (Err Fault.OutOfMemory)) (after (Coro.put_to_sleep a m.held.outer K x keys r v) (Ok (a.driver, Coro.event_of st x (Coro.set_keys keys r)))))
 
     accepted : tries pc st dst x u keys ≡ true
     unfolding coro_suspend
     accepted =
         ap (λ (cs : List Active). taken (suspend_innermost cs st dst x keys v).answer) (same.chain ∙ m.held.chain)
-        ∙ (ap (λ b. taken (pick b (after v (Suspension.Refused Fault.CannotSuspend)) (suspend_coroutine (coro u c) a m.held.outer K x keys v)).answer) inside
-        ∙ (ap (λ (y : After Suspension). taken y.answer) (pick-false (after v (Suspension.Refused Fault.CannotSuspend)) (suspend_coroutine (coro u c) a m.held.outer K x keys v))
+        ∙ (ap (λ b. taken (pick b (after v (Err Fault.CannotSuspend)) (suspend_coroutine (coro u c) a m.held.outer K x keys v)).answer) inside
+        ∙ (ap (λ (y : After (Result (Driver × Event) Fault)). taken y.answer) (pick-false (after v (Err Fault.CannotSuspend)) (suspend_coroutine (coro u c) a m.held.outer K x keys v))
         ∙ found (coro u c) (ap seen_of (same.coros c) ∙ m.there)))
 
   -- an instruction whose operands lie takes it, at the world that the charge leaves
@@ -180,9 +177,9 @@ module _ (w : World) (n c : ℕ) (m : Roomy steps n c w) where
     stand = ap (λ (fs : List Frame). is_nil fs) m.held.frames ∙ stands m.held.over m.held.body m.held.under
 
     takes : (ok : Bool) (f : World → Bool) → ok ≡ true → f u ≡ true →
-        pick (is_nil w.frames) false (pick (not ok) false (paid_by f (charge (OptPc.Some pc) w).world (charge (OptPc.Some pc) w).answer)) ≡ true
+        pick (is_nil w.frames) false (pick (not ok) false (paid_by f (charge (Some pc) w).world (charge (Some pc) w).answer)) ≡ true
     takes ok f o h =
-        let tail : Bool = paid_by f (charge (OptPc.Some pc) w).world (charge (OptPc.Some pc) w).answer in
+        let tail : Bool = paid_by f (charge (Some pc) w).world (charge (Some pc) w).answer in
         ap (λ b. pick b false (pick (not ok) false tail)) stand
         ∙ (pick-false false (pick (not ok) false tail)
         ∙ (ap (λ b. pick (not b) false tail) o
@@ -200,12 +197,12 @@ module _ (w : World) (n c : ℕ) (m : Roomy steps n c w) where
       ∙ (ap (λ q. is_suspension (number_of (call q w).answer)) (some-op e)
       ∙ ((call-number w well (Op.Await pc dst src) refl).ok
       ∙ takes pc (all_in (dst ∷ src ∷ []) w) (suspends_in (Op.Await pc dst src)) (rw (← base-top w.frames) l)
-      (inner pc (λ _. tries pc CoroState.Awaiting dst (reg (u pc) src) (u pc) Keys.Keep) (accepted (u pc) pc (beside pc) (still pc) dst (reg (u pc) src) CoroState.Awaiting Keys.Keep))))
+      (inner pc (λ _. tries pc CoroState.Awaiting dst (reg (u pc) src) (u pc) None) (accepted (u pc) pc (beside pc) (still pc) dst (reg (u pc) src) CoroState.Awaiting None))))
 
   pub kv-takes : (k : Call) (pc dst src key : ℕ) → model_op k ≡ some (Op.YieldKv pc dst src key) → lie (view_of w) (dst ∷ src ∷ key ∷ []) ≡ true → is_suspension (number_of (step w k).answer) ≡ true
   kv-takes (SetUp s) pc dst src key e l = let z : ◌≡◌ {A = ℕ} 0 1 = cc in absurd (omega arith)
   kv-takes (Do o) pc dst src key e l =
-      let keys : Active → Keys = λ b. Keys.Set (reg (u pc) key) (larger_of (largest_in (coro (u pc) b.coro)) (dyn_int (u pc) (reg (u pc) key))) in
+      let keys : Active → RustOption (ℕ × ℕ) = λ b. Some (reg (u pc) key, larger_of (largest_in (coro (u pc) b.coro)) (dyn_int (u pc) (reg (u pc) key))) in
       ap (λ x. is_suspension (number_of x)) (number-sound w o well)
       ∙ (ap (λ q. is_suspension (number_of (call q w).answer)) (some-op e)
       ∙ ((call-number w well (Op.YieldKv pc dst src key) refl).ok
@@ -233,7 +230,7 @@ module _ (w : World) (n c : ℕ) (m : Roomy steps n c w) where
     room : slots_full y ≡ false
     room = (λ i. leb (setup i).limits.slots (length ((p pc).alike.slots i))) ∙ slot
 
-    key-made : (dst x : ℕ) (k : ℕ) → next_key largest ≡ Exact.Fits k → keyed (tries pc CoroState.Yielded dst x) (auto_key largest y).world (auto_key largest y).answer ≡ true
+    key-made : (dst x : ℕ) (k : ℕ) → next_key largest ≡ Some k → keyed (tries pc CoroState.Yielded dst x) (auto_key largest y).world (auto_key largest y).answer ≡ true
     unfolding auto_key alloc pick
     key-made dst x k e = ap (λ z. keyed (tries pc CoroState.Yielded dst x) (key_exact z y).world (key_exact z y).answer) e ∙ go (inline_of (of_bits 63 k))
       where
@@ -241,20 +238,20 @@ module _ (w : World) (n c : ℕ) (m : Roomy steps n c w) where
         made = with_used (sat_add y.used y.setup.costs.int) (with_slots (push_object y.slots (Object.Int k)) y)
 
         object : (b d : Bool) → b ≡ false → d ≡ false
-            → let o = pick b (refuse y Fault.OutOfMemory) (pick d (refuse y Fault.Full) (after made (WordOr.Word (next_word y.slots)))) in Same y o.world
+            → let o = pick b (refuse y Fault.OutOfMemory) (pick d (refuse y Fault.Full) (after made (Ok (next_word y.slots)))) in Same y o.world
             → keyed (tries pc CoroState.Yielded dst x) (and_then o (key_at k)).world (and_then o (key_at k)).answer ≡ true
         object true d p q g = no_both refl p
         object false true p q g = no_both refl q
         object false false b q g =
             let e = (p pc).alike.used in
             let i : y.setup.costs.int ≡ w.setup.costs.int = ap (λ s. s.costs.int) setup in
-            accepted made pc (near (p pc).alike g) (omega (arith, cost, e, i)) dst x CoroState.Yielded (Keys.Set (next_word y.slots) k)
+            accepted made pc (near (p pc).alike g) (omega (arith, cost, e, i)) dst x CoroState.Yielded (Some (next_word y.slots, k))
 
-        go : (i : Inline) → keyed (tries pc CoroState.Yielded dst x) (and_then (encode_at i k y) (key_at k)).world (and_then (encode_at i k y) (key_at k)).answer ≡ true
-        go (Inline.At z) = accepted y pc (beside pc) (still pc) dst x CoroState.Yielded (Keys.Set z.0 k)
-        go Inline.Large = object (not (fits y y.setup.costs.int)) (slots_full y) (ap not affords) room (let g = alloc_same y.setup.costs.int (Object.Int k) y refl in record { setup = g.setup; stack = g.stack; frames = g.frames; chain = g.chain; coros = g.coros })
+        go : (i : RustOption Word) → keyed (tries pc CoroState.Yielded dst x) (and_then (encode_at i k y) (key_at k)).world (and_then (encode_at i k y) (key_at k)).answer ≡ true
+        go (Some z) = accepted y pc (beside pc) (still pc) dst x CoroState.Yielded (Some (z.0, k))
+        go None = object (not (fits y y.setup.costs.int)) (slots_full y) (ap not affords) room (let g = alloc_same y.setup.costs.int (Object.Int k) y refl in record { setup = g.setup; stack = g.stack; frames = g.frames; chain = g.chain; coros = g.coros })
 
-    seven : (dst src : ℕ) → next_key largest ≡ Exact.Over → (yield pc dst src y).answer ≡ Step.Fault Fault.ArithOverflow
+    seven : (dst src : ℕ) → next_key largest ≡ None → (yield pc dst src y).answer ≡ Step.Fault Fault.ArithOverflow
     unfolding yield auto_key
     seven dst src e =
         ap (λ (cs : List Active). (yield_on cs pc dst src y).answer) ((beside pc).chain ∙ m.held.chain)
@@ -271,12 +268,12 @@ module _ (w : World) (n c : ℕ) (m : Roomy steps n c w) where
         first : (b d : Bool) → b ≡ true → (b || d) ≡ true
         first b d h = ap (λ x. x || d) h
 
-        go : (z : Exact) → next_key largest ≡ z → (is_suspension (number_of (call (Op.Yield pc dst src) w).answer) || eqb (number_of (call (Op.Yield pc dst src) w).answer) 7) ≡ true
-        go (Exact.Fits k) q =
+        go : (z : RustOption ℕ) → next_key largest ≡ z → (is_suspension (number_of (call (Op.Yield pc dst src) w).answer) || eqb (number_of (call (Op.Yield pc dst src) w).answer) 7) ≡ true
+        go (Some k) q =
             first (is_suspension (number_of (call (Op.Yield pc dst src) w).answer)) (eqb (number_of (call (Op.Yield pc dst src) w).answer) 7)
             ((call-number w well (Op.Yield pc dst src) refl).ok
             ∙ takes pc (all_in (dst ∷ src ∷ []) w) (suspends_in (Op.Yield pc dst src)) ok
             (inner pc (λ b. keyed (tries pc CoroState.Yielded dst (reg y src)) (auto_key (largest_in (coro y b.coro)) y).world (auto_key (largest_in (coro y b.coro)) y).answer) (key-made dst (reg y src) k q)))
-        go Exact.Over q =
+        go None q =
             ap (λ n. is_suspension n || eqb n 7)
             (ap number_of (paid-number w pc (p pc) (all_in (dst ∷ src ∷ []) w) (yield pc dst src) (stand pc) ok ∙ ap (answer_of (p pc).words) (seven dst src q)) ∙ step-number (p pc).words (Step.Fault Fault.ArithOverflow))

@@ -8,7 +8,7 @@ use lib.Dec.{eqb, leb}
 use borrow.Author.Tests.{eqb-true, not-true}
 use Rattle.lists.specs.Pick.{pick, pick_true, pick-false}
 use Rattle.heap.specs.Table.{slot}
-use Rattle.heap.specs.declared.heap.Place.{Place}
+use Rattle.std.specs.Prelude.{Option, Some, None}
 use Rattle.model.specs.Lists.{is_nil, each}
 use Rattle.model.specs.State.{is_running, is_resumable}
 use Rattle.model.specs.Program.{Setup, setup_ok}
@@ -97,9 +97,9 @@ pub lifts : (w : World) → sound w ≡ true → (c : ℕ) → is_resumable (cor
 unfolding saved_ok
 lifts w h c = go (place w c)
   where
-    go : (p : Place) → is_resumable (core_in (as_coro (object_at w.slots p))).state ≡ true → is_nil (core_in (as_coro (object_at w.slots p))).frames ≡ false → Lift (core_in (as_coro (object_at w.slots p))).frames
-    go Place.Nothing r n = no_both refl n
-    go (Place.At i) r n = saved-in w.setup (as_coro (get_or w.slots i (slot 0 Object.Empty)).object) (each_at (λ x. saved_in w.setup (as_coro x.object)) w.slots i (slot 0 Object.Empty) refl (two w h).1) r n
+    go : (p : Option ℕ) → is_resumable (core_in (as_coro (object_at w.slots p))).state ≡ true → is_nil (core_in (as_coro (object_at w.slots p))).frames ≡ false → Lift (core_in (as_coro (object_at w.slots p))).frames
+    go None r n = no_both refl n
+    go (Some i) r n = saved-in w.setup (as_coro (get_or w.slots i (slot 0 Object.Empty)).object) (each_at (λ x. saved_in w.setup (as_coro x.object)) w.slots i (slot 0 Object.Empty) refl (two w h).1) r n
 
 -- the innermost coroutine runs
 pub first_runs : (w : World) → sound w ≡ true → (a : Active) (chain : List Active) → w.chain ≡ a ∷ chain → is_running (core_at w a.coro).state ≡ true
@@ -118,9 +118,9 @@ pub solid : (w : World) → sound w ≡ true → (c : ℕ) (k : Core) (r : Rest)
 unfolding saved_ok
 solid w h c k r e s = body-solid k.frames (and_left (body_last k.frames) (frames_over w.setup (length k.regs) k.frames) (and_left (body_last k.frames && frames_over w.setup (length k.regs) k.frames) (waits k) held))
   where
-    all : (p : Place) → saved_in w.setup (as_coro (object_at w.slots p)) ≡ true
-    all Place.Nothing = refl
-    all (Place.At i) = each_at (λ x. saved_in w.setup (as_coro x.object)) w.slots i (slot 0 Object.Empty) refl (two w h).1
+    all : (p : Option ℕ) → saved_in w.setup (as_coro (object_at w.slots p)) ≡ true
+    all None = refl
+    all (Some i) = each_at (λ x. saved_in w.setup (as_coro x.object)) w.slots i (slot 0 Object.Empty) refl (two w h).1
 
     held : (body_last k.frames && frames_over w.setup (length k.regs) k.frames && waits k) ≡ true
     held =

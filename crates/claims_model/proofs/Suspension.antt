@@ -8,7 +8,7 @@ use Rattle.model.specs.Cleanup.{charge}
 use Rattle.model.specs.Sound.{sound}
 use Rattle.model.specs.Call.{Call, SetUp, Do}
 use Rattle.model.specs.declared.machine.Charge.{Charge}
-use Rattle.model.specs.declared.call.OptPc.{OptPc}
+use Rattle.std.specs.Prelude.{Some}
 use Rattle.model.specs.declared.call.Op.{Op}
 use Rattle.claims_model.proofs.Entry.{Act, at, by_host, finishes, unwinds, other, act, Plan, suspending, entering, hosting, finishing, unwinding, asking, idle, plan, suspend_ok}
 
@@ -31,7 +31,7 @@ paid_by f w Charge.Spent = false
 paid_by f w (Charge.Close n) = false
 
 abbrev pub takes_by : Act → (World → Bool) → World → Bool
-takes_by (at pc ok a) f w = pick (is_nil w.frames) false (pick (not ok) false (paid_by f (charge (OptPc.Some pc) w).world (charge (OptPc.Some pc) w).answer))
+takes_by (at pc ok a) f w = pick (is_nil w.frames) false (pick (not ok) false (paid_by f (charge (Some pc) w).world (charge (Some pc) w).answer))
 takes_by (by_host c v) f w = false
 takes_by (finishes kind v) f w = false
 takes_by unwinds f w = false

@@ -18,8 +18,8 @@ use Rattle.model.specs.Cleanup.{coro_suspended, close}
 use Rattle.model.specs.Exec as Exec
 use Rattle.model.specs.Exec.{fault, arrive, resume, throw_entered, throw_to, resume_throw, close_entered, close_in, close_to, coro_close, iter_on, iter_next}
 use Rattle.model.specs.declared.machine.Driver.{Driver}
+use Rattle.std.specs.Prelude.{Result, Ok, Err}
 use Rattle.model.specs.declared.coro.Entered.{Entered}
-use Rattle.model.specs.declared.coro.Stated.{Stated}
 use Rattle.claims_model.specs.Says.{Sent, nothing, gets, closes}
 use Rattle.claims_model.specs.Touches.{May, may}
 use Rattle.claims_model.proofs.Entry.{enters, awaits, nobody, entry, accepts_as, accepts, sent_to}
@@ -37,27 +37,27 @@ stored : (p : ℕ) (v : World) → Stored p v (store_pc p v)
 stored p v = record { setup = refl; stack = refl; frames = refl; chain = refl; slots = refl; used = refl }
 
 -- the world that is left, where the word x is sent; where nothing is
-abbrev pub sent_w : ℕ → World → Entered → World
-sent_w x w Entered.Fresh = w
-sent_w x w (Entered.Suspended d) = coro_send d x w
-sent_w x w (Entered.Refused f) = w
+abbrev pub sent_w : ℕ → World → Result Entered Fault → World
+sent_w x w (Ok Entered.Fresh) = w
+sent_w x w (Ok (Entered.Suspended d)) = coro_send d x w
+sent_w x w (Err f) = w
 
-abbrev pub tail_w : (World → World) → World → Entered → World
-tail_w g w Entered.Fresh = g w
-tail_w g w (Entered.Suspended d) = g w
-tail_w g w (Entered.Refused f) = w
+abbrev pub tail_w : (World → World) → World → Result Entered Fault → World
+tail_w g w (Ok Entered.Fresh) = g w
+tail_w g w (Ok (Entered.Suspended d)) = g w
+tail_w g w (Err f) = w
 
 -- an entry was accepted and leaves z, or was refused
 pub data Tried (m : Option May) (v : World) (p c : ℕ) (d : Driver) (s : Sent) (z : World) : Type 0 where
   t-in : accepts v c ≡ true → is_resumable (core_at v c).state ≡ true → Enter v p c d (sent_to (coro v c) s) z → Tried m v p c d s z
   t-out : accepts v c ≡ false → Worked m m-plain (view v) (view z) → Tried m v p c d s z
 
-sent-pick : (b : Bool) (x y : ℕ) (w : World) → pick b w (coro_send y x w) ≡ sent_w x w (pick b Entered.Fresh (Entered.Suspended y))
+sent-pick : (b : Bool) (x y : ℕ) (w : World) → pick b w (coro_send y x w) ≡ sent_w x w (pick b (Ok Entered.Fresh) (Ok (Entered.Suspended y)))
 unfolding pick
 sent-pick true x y w = refl
 sent-pick false x y w = refl
 
-tail-pick : (b : Bool) (y : ℕ) (g : World → World) (w : World) → g w ≡ tail_w g w (pick b Entered.Fresh (Entered.Suspended y))
+tail-pick : (b : Bool) (y : ℕ) (g : World → World) (w : World) → g w ≡ tail_w g w (pick b (Ok Entered.Fresh) (Ok (Entered.Suspended y)))
 unfolding pick
 tail-pick true y g w = refl
 tail-pick false y g w = refl
@@ -74,11 +74,11 @@ try-at {m} v p c d x u s w = go (coro_enter c d u) (enter-case c d u)
     same : coro v c ≡ coro u c
     same = sym (coro-slots u v s.slots c)
 
-    go : (e : After Entered) → EnterCase c d u e → Tried m v p c d (gets x) (sent_w x e.world e.answer)
+    go : (e : After (Result Entered Fault)) → EnterCase c d u e → Tried m v p c d (gets x) (sent_w x e.world e.answer)
     go e (e-out f h) = t-out (sym (accepts-stored s c) ∙ h) w
     go e (e-in k r h a b n) =
         t-in (sym (accepts-stored s c) ∙ a) (ap (λ y. is_resumable (core_in y).state) (same ∙ h) ∙ b)
-        (subst (λ t. Enter v p c d t (sent_w x (entered c d k r u) (pick (is_created k.state) Entered.Fresh (Entered.Suspended k.waiting)))) (sym (ap (λ y. sent_to y (gets x)) (same ∙ h)))
+        (subst (λ t. Enter v p c d t (sent_w x (entered c d k r u) (pick (is_created k.state) (Ok Entered.Fresh) (Ok (Entered.Suspended k.waiting))))) (sym (ap (λ y. sent_to y (gets x)) (same ∙ h)))
         (subst (Enter v p c d (pick (is_created k.state) nothing (gets x))) (sent-pick (is_created k.state) x k.waiting (entered c d k r u))
         (enter-raw k r s h b n (raw-sent c d u k r h x n (is_created k.state)))))
 
@@ -91,11 +91,11 @@ try-silent {m} v p c d g calm may = go (coro_enter c d u) (enter-case c d u)
     u : World
     u = store_pc p v
 
-    go : (e : After Entered) → EnterCase c d u e → Tried m v p c d nothing (tail_w g e.world e.answer)
+    go : (e : After (Result Entered Fault)) → EnterCase c d u e → Tried m v p c d nothing (tail_w g e.world e.answer)
     go e (e-out f h) = t-out (sym (accepts-stored (stored p v) c) ∙ h) (tops (set_pc p) (keeps-pc p) may done)
     go e (e-in k r h a b n) =
         t-in (sym (accepts-stored (stored p v) c) ∙ a) (ap (λ y. is_resumable (core_in y).state) h ∙ b)
-        (subst (λ s. Enter v p c d s (tail_w g i (pick (is_created k.state) Entered.Fresh (Entered.Suspended k.waiting)))) (sym (ap (λ y. sent_to y nothing) h ∙ pick-none (is_created k.state)))
+        (subst (λ s. Enter v p c d s (tail_w g i (pick (is_created k.state) (Ok Entered.Fresh) (Ok (Entered.Suspended k.waiting))))) (sym (ap (λ y. sent_to y nothing) h ∙ pick-none (is_created k.state)))
         (subst (Enter v p c d nothing) (tail-pick (is_created k.state) k.waiting g i)
         (enter-raw k r (stored p v) h b n (raw-calm (calm i) (raw-none c d u k r h)))))
       where
@@ -110,11 +110,11 @@ try-closed {m} v p c d x k₀ r₀ here begun may = go (coro_enter c d u) (enter
     u : World
     u = store_pc p v
 
-    go : (e : After Entered) → EnterCase c d u e → Tried m v p c d (closes x) (tail_w (change_coro c (λ k. k) (close x)) e.world e.answer)
+    go : (e : After (Result Entered Fault)) → EnterCase c d u e → Tried m v p c d (closes x) (tail_w (change_coro c (λ k. k) (close x)) e.world e.answer)
     go e (e-out f h) = t-out (sym (accepts-stored (stored p v) c) ∙ h) (tops (set_pc p) (keeps-pc p) may done)
     go e (e-in k r h a b n) =
         t-in (sym (accepts-stored (stored p v) c) ∙ a) (ap (λ y. is_resumable (core_in y).state) h ∙ b)
-        (subst (λ s. Enter v p c d s (tail_w (change_coro c (λ k. k) (close x)) i (pick (is_created k.state) Entered.Fresh (Entered.Suspended k.waiting)))) (sym (ap (λ y. sent_to y (closes x)) here ∙ ap (λ t. pick t nothing (closes x)) begun ∙ pick-false nothing (closes x)))
+        (subst (λ s. Enter v p c d s (tail_w (change_coro c (λ k. k) (close x)) i (pick (is_created k.state) (Ok Entered.Fresh) (Ok (Entered.Suspended k.waiting))))) (sym (ap (λ y. sent_to y (closes x)) here ∙ ap (λ t. pick t nothing (closes x)) begun ∙ pick-false nothing (closes x)))
         (subst (Enter v p c d (closes x)) (tail-pick (is_created k.state) k.waiting (change_coro c (λ k. k) (close x)) i)
         (enter-raw k r (stored p v) h b n (raw-closed c d u k r h x))))
       where
@@ -132,10 +132,10 @@ may-not {v = v} {c = c} {d = d} {s = s} may e t = a-works refl (ap (λ b. pick (
 
 -- ---- Resume
 
-arrive-world : (x : ℕ) (w : World) (e : Entered) → sent_w x w e ≡ (arrive x w e).world
-arrive-world x w Entered.Fresh = refl
-arrive-world x w (Entered.Suspended d) = refl
-arrive-world x w (Entered.Refused f) = refl
+arrive-world : (x : ℕ) (w : World) (e : Result Entered Fault) → sent_w x w e ≡ (arrive x w e).world
+arrive-world x w (Ok Entered.Fresh) = refl
+arrive-world x w (Ok (Entered.Suspended d)) = refl
+arrive-world x w (Err f) = refl
 
 pub resume-arm : (p dst c src : ℕ) (v : World) → Arm (may (some p) none false) v p (enters (reg v c) (Driver.Resume dst) (gets (reg v src)) true) false (resume p dst c src v).world
 unfolding resume
@@ -164,10 +164,10 @@ created-susp CoroState.Failed e = refl
 calm-none : (w : World) → Calm w w
 calm-none w = record { setup = refl; stack = refl; frames = refl; chain = refl; cores = λ c. refl }
 
-thrown-world : (x : ℕ) (w : World) (e : Entered) → tail_w (λ y. y) w e ≡ (throw_entered x w e).world
-thrown-world x w Entered.Fresh = refl
-thrown-world x w (Entered.Suspended d) = refl
-thrown-world x w (Entered.Refused f) = refl
+thrown-world : (x : ℕ) (w : World) (e : Result Entered Fault) → tail_w (λ y. y) w e ≡ (throw_entered x w e).world
+thrown-world x w (Ok Entered.Fresh) = refl
+thrown-world x w (Ok (Entered.Suspended d)) = refl
+thrown-world x w (Err f) = refl
 
 -- a coroutine that has not begun ends
 kill-worked : {m : Option May} (c : ℕ) (s : CoroState) (x : ℕ) (v : World) → busy s ≡ false → is_created s ≡ false → is_created (core_at v c).state ≡ true → {z : View} → Worked m (m-undoing c) (view (finish_coroutine c s x v)) z → Worked m (m-undoing c) (view v) z
@@ -209,10 +209,10 @@ throw-arm p dst c src v = go (coro v n) refl
 
 -- ---- CoroClose
 
-closing-world : (c x : ℕ) (w : World) (e : Entered) → tail_w (change_coro c (λ k. k) (close x)) w e ≡ (close_entered c x w e).world
-closing-world c x w Entered.Fresh = refl
-closing-world c x w (Entered.Suspended d) = refl
-closing-world c x w (Entered.Refused f) = refl
+closing-world : (c x : ℕ) (w : World) (e : Result Entered Fault) → tail_w (change_coro c (λ k. k) (close x)) w e ≡ (close_entered c x w e).world
+closing-world c x w (Ok Entered.Fresh) = refl
+closing-world c x w (Ok (Entered.Suspended d)) = refl
+closing-world c x w (Err f) = refl
 
 pub close-arm : (p dst c src : ℕ) (v : World) → Arm (may (some p) (some dst) false) v p (enters (reg v c) (Driver.Resume dst) (closes (reg v src)) (coro_suspended (coro v (reg v c)))) false (coro_close p dst c src v).world
 unfolding coro_close
@@ -230,7 +230,7 @@ close-arm p dst c src v = go (coro v n) refl
     tried : (k : Core) (r : Rest) → coro v n ≡ Is k r → is_created k.state ≡ false → Tried (may (some p) (some dst) false) v p n d (closes x) (close_in p dst n x v).world
     tried k r h b = let e = coro_enter n d (store_pc p v) in subst (Tried (may (some p) (some dst) false) v p n d (closes x)) (closing-world n x e.world e.answer) (try-closed v p n d x k r h b (p, refl, refl))
 
-    states : (k : Core) (r : Rest) → coro v n ≡ Is k r → (s : CoroState) → k.state ≡ s → Arm (may (some p) (some dst) false) v p (enters n d (closes x) (coro_suspended (coro v n))) false (close_to (Stated.In s) p dst n x v).world
+    states : (k : Core) (r : Rest) → coro v n ≡ Is k r → (s : CoroState) → k.state ≡ s → Arm (may (some p) (some dst) false) v p (enters n d (closes x) (coro_suspended (coro v n))) false (close_to (Ok s) p dst n x v).world
     states k r e CoroState.Created h = may-not (coro_suspended (coro v n)) (ap coro_suspended e ∙ ap is_suspended h) (kill-worked n CoroState.Returned nil v refl refl (ap (λ y. is_created (core_in y).state) e ∙ ap is_created h) (puts dst nil refl done))
     states k r e CoroState.Running h = may-not (coro_suspended (coro v n)) (ap coro_suspended e ∙ ap is_suspended h) done
     states k r e CoroState.Yielded h = tried-arm (coro_suspended (coro v n)) (ap coro_suspended e ∙ ap is_suspended h) (tried k r e (ap is_created h))

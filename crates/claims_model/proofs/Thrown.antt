@@ -28,9 +28,8 @@ use Rattle.model.specs.Call.{Call, SetUp, Do}
 use Rattle.model.specs.Step.{call, step}
 use Rattle.model.specs.declared.machine.Driver.{Driver}
 use Rattle.model.specs.declared.machine.Charge.{Charge}
-use Rattle.model.specs.declared.coro.Stated.{Stated}
+use Rattle.std.specs.Prelude.{Some, Ok}
 use Rattle.model.specs.declared.exec.Step.{Step}
-use Rattle.model.specs.declared.call.OptPc.{OptPc}
 use Rattle.model.specs.declared.call.Op.{Op}
 use Rattle.claims_model.specs.Engine.{seen_created, seen_in, state_is}
 use Rattle.claims_model.specs.Says.{Sent, nothing, closes, register_word}
@@ -111,7 +110,7 @@ close-in p dst q src v h = let t = go (coro v (reg v q)) h in aimed-in (reg v q)
     goes : step_number (close_in p dst (reg v q) x v).answer ≡ 17 → accepts v (reg v q) ≡ true
     goes h = stored p v (reg v q) (accepted-by 17 seventeen-not step_number (close_entered (reg v q) x) (λ u g. refl) (reg v q) (Driver.Resume dst) (store_pc p v) h)
 
-    states : (s : CoroState) → step_number (close_to (Stated.In s) p dst (reg v q) x v).answer ≡ 17 → (is_created s ≡ false) × (accepts v (reg v q) ≡ true)
+    states : (s : CoroState) → step_number (close_to (Ok s) p dst (reg v q) x v).answer ≡ 17 → (is_created s ≡ false) × (accepts v (reg v q) ≡ true)
     states CoroState.Created h = absurd (omega (arith, h))
     states CoroState.Running h = absurd (omega (arith, h))
     states CoroState.Yielded h = (refl, goes h)
@@ -141,11 +140,11 @@ instr-some w o p ok F arm e owes h = subst (λ x. Somebody (entry_by x w)) (sym 
     paid ch (c-spent v r) h = absurd (omega (arith, h))
     paid ch (c-close n c z x t) h = record { coro = c; driver = Driver.Finalize; sent = closes 0; is = x }
 
-    gate : (a b : Bool) → number_of (pick a (refused w Fault.NoFrame) (pick (not b) (refused w Fault.BadOperand) (and_then (charge (OptPc.Some p) w) (Gate.charged arm)))).answer ≡ 17
-        → Somebody (pick a E.nobody (pick (not b) E.nobody (E.charged (charge (OptPc.Some p) w).answer w (aimed (aim w) w))))
+    gate : (a b : Bool) → number_of (pick a (refused w Fault.NoFrame) (pick (not b) (refused w Fault.BadOperand) (and_then (charge (Some p) w) (Gate.charged arm)))).answer ≡ 17
+        → Somebody (pick a E.nobody (pick (not b) E.nobody (E.charged (charge (Some p) w).answer w (aimed (aim w) w))))
     gate true b h = absurd (omega (arith, h))
     gate false false h = absurd (omega (arith, h))
-    gate false true h = paid (charge (OptPc.Some p) w) (charge-case p w) h
+    gate false true h = paid (charge (Some p) w) (charge-case p w) h
 
 throw-some : (w : World) (pc dst q src : ℕ) → new_in (coro w (reg w q)) ≡ false → number_of (call (Op.ResumeThrow pc dst q src) w).answer ≡ 17 → Somebody (entry_by (act w (Op.ResumeThrow pc dst q src)) w)
 unfolding call new_in

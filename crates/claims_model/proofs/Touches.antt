@@ -8,13 +8,13 @@ use mathlib.Core.List.{List, [], ◌∷◌, ◌++◌, append-nil}
 use mathlib.Core.Option.{Option, none, some}
 use lib.ListN.{length, get_or, take, replicate, length-set}
 use lib.Seq.{set-get_or, set-set}
-use lib.Dec.{leb, ltb}
+use lib.Dec.{eqb, leb, ltb}
 use borrow.Author.Tests.{eq-eqb}
 use Rattle.lists.specs.Pick.{pick}
 use Rattle.heap.specs.Word.{nil}
 use Rattle.heap.specs.Fault as Faults
 use Rattle.heap.specs.declared.fault.Fault.{Fault}
-use Rattle.heap.specs.declared.value.Opt.{Opt}
+use Rattle.std.specs.Prelude.{Option as RustOption, Result, Some, None, Ok, Err}
 use Rattle.heap.specs.declared.heap.ResultKind.{ResultKind}
 use Rattle.model.specs.Lists.{is_nil}
 use Rattle.model.specs.State.{is_running, is_suspended}
@@ -22,7 +22,7 @@ use Rattle.model.specs.Program.{func, is_function}
 use Rattle.model.specs.World.{World, after, and_then, with_stack, with_frames}
 use Rattle.model.specs.Frames.{frame, on_top, set_pc, step_pc, put_at, store_pc, next_pc, pop_to}
 use Rattle.model.specs.Heap.{refuse, to_dyn}
-use Rattle.model.specs.Machine.{push_frame, result_of, or_nil, write_result, write_made, apply_cont, is_ok, resume_in, finish_as, finish_on, finish}
+use Rattle.model.specs.Machine.{push_frame, result_of, or_nil, write_result, write_made, apply_cont, resume_in, finish_as, finish_on, finish}
 use Rattle.model.specs.Gate.{refused, all_in, on_frame, on_host}
 use Rattle.model.specs.Added.{pushed_or, host_call, cont_allowed, function_call, put_word}
 use Rattle.model.specs.Sound.{sound}
@@ -32,7 +32,6 @@ use Rattle.model.specs.Step.{call, tested, step, told}
 use Rattle.model.specs.declared.machine.Cont.{Cont}
 use Rattle.model.specs.declared.machine.Frame.{Frame}
 use Rattle.model.specs.declared.machine.Active.{Active}
-use Rattle.model.specs.declared.coro.WordOr.{WordOr}
 use Rattle.model.specs.declared.call.Op.{Op}
 use Rattle.model.specs.declared.call.Answer.{Answer}
 use Rattle.claims_model.specs.Held.{at, into}
@@ -48,6 +47,7 @@ use Rattle.claims_model.proofs.Cores.{no_both, Mode, m-plain}
 use Rattle.claims_model.proofs.Shape as S
 use Rattle.claims_model.proofs.Shape.{View, view, Stores, Worked, done, quiet, tops, puts, pushes, pops, fails, top_v, put_v, Shape}
 use Rattle.claims_model.proofs.Quiet.{Same, dyn-same}
+use Rattle.claims_model.proofs.Finishes.{is_zero, refused-dyn, refused-at}
 use Rattle.claims_model.proofs.Events.{ready-run}
 use Rattle.claims_model.proofs.Sounds.{first_runs}
 use Rattle.claims_model.proofs.Calls.{shape}
@@ -208,7 +208,7 @@ called-tested w pc f cont =
     left : World
     left = with_frames (frame f (length w.stack) nil cont ∷ u.frames) (with_stack (w.stack ++ replicate (func w.setup f).regs 0) u)
 
-    go : (a b c d : Bool) → let o = pick a (told (pick b (refused w Fault.NoFrame) (pick (not c) (refused w Fault.BadOperand) (and_then (pick d (refuse u Fault.StackOverflow) (after left (WordOr.Word (length w.stack)))) (pushed_or w))))) (told (refused w Fault.Unsound)) in
+    go : (a b c d : Bool) → let o = pick a (told (pick b (refused w Fault.NoFrame) (pick (not c) (refused w Fault.BadOperand) (and_then (pick d (refuse u Fault.StackOverflow) (after left (Ok (length w.stack)))) (pushed_or w))))) (told (refused w Fault.Unsound)) in
         number_of o.answer ≡ 0 → Called f cont (at pc w.frames) (view_of w) (view_of o.world)
     go true false true false n = record { frames = ap (λ (fs : List Frame). frame f (length w.stack) nil cont ∷ fs) (at_top pc w.frames); stack = refl }
     go true false true true n = absurd (omega (arith, n))
@@ -228,7 +228,7 @@ host-tested w f = go (sound w) (is_nil w.frames) refl (is_function w.setup f) (l
     none-stands (g ∷ fs) h = no_both h refl
 
     go : (a b : Bool) → is_nil w.frames ≡ b → (c d : Bool)
-        → let o = pick a (told (pick (not b) (refused w Fault.Busy) (pick (not c) (refused w Fault.BadOperand) (and_then (pick d (refuse w Fault.StackOverflow) (after left (WordOr.Word (length w.stack)))) (pushed_or w))))) (told (refused w Fault.Unsound)) in
+        → let o = pick a (told (pick (not b) (refused w Fault.Busy) (pick (not c) (refused w Fault.BadOperand) (and_then (pick d (refuse w Fault.StackOverflow) (after left (Ok (length w.stack)))) (pushed_or w))))) (told (refused w Fault.Unsound)) in
         number_of o.answer ≡ 0 → Called f Cont.Entry [] (view_of w) (view_of o.world)
     go true true e true false n = record { frames = ap (λ (fs : List Frame). frame f (length w.stack) nil Cont.Entry ∷ fs) (none-stands w.frames e); stack = refl }
     go true true e true true n = absurd (omega (arith, n))
@@ -264,27 +264,23 @@ module _ (kind : ResultKind) (x : ℕ) (f : Frame) (fs : List Frame) (w : World)
   words : List ℕ
   words = take f.base w.stack
 
-  wrote : (dst : ℕ) (r : Opt) → (y : ℕ) × ((write_result dst r (pop_to f fs w)).stack ≡ into fs dst y words)
+  wrote : (dst : ℕ) (r : RustOption ℕ) → (y : ℕ) × ((write_result dst r (pop_to f fs w)).stack ≡ into fs dst y words)
   unfolding words
-  wrote dst Opt.None = (standing (some dst) fs words, stands (some dst) fs words)
-  wrote dst (Opt.Some y) = (y, put-storing none fs dst y words)
+  wrote dst None = (standing (some dst) fs words, stands (some dst) fs words)
+  wrote dst (Some y) = (y, put-storing none fs dst y words)
 
-  wrote-frames : (dst : ℕ) (r : Opt) → (write_result dst r (pop_to f fs w)).frames ≡ fs
-  wrote-frames dst Opt.None = refl
-  wrote-frames dst (Opt.Some y) = refl
+  wrote-frames : (dst : ℕ) (r : RustOption ℕ) → (write_result dst r (pop_to f fs w)).frames ≡ fs
+  wrote-frames dst None = refl
+  wrote-frames dst (Some y) = refl
 
-  wrote-chain : (dst : ℕ) (r : Opt) → (write_result dst r (pop_to f fs w)).chain ≡ w.chain
-  wrote-chain dst Opt.None = refl
-  wrote-chain dst (Opt.Some y) = refl
+  wrote-chain : (dst : ℕ) (r : RustOption ℕ) → (write_result dst r (pop_to f fs w)).chain ≡ w.chain
+  wrote-chain dst None = refl
+  wrote-chain dst (Some y) = refl
 
-  converted : (dst : ℕ) (t : World) (m : WordOr) → Same (pop_to f fs w) t → number_of (and_then (write_made dst t m) resume_in).answer ≡ 0 → Gone (Cont.Dyn dst) (and_then (write_made dst t m) resume_in).world
+  converted : (dst : ℕ) (t : World) (m : Result ℕ Fault) → Same (pop_to f fs w) t → ((e : Fault) → m ≡ Err e → eqb (Faults.number_of e) 0 ≡ false) → number_of (and_then (write_made dst t m) resume_in).answer ≡ 0 → Gone (Cont.Dyn dst) (and_then (write_made dst t m) resume_in).world
   unfolding pick words
-  converted dst t (WordOr.Word y) g n = record { frames = ap (on_top step_pc) g.frames ∙ on-ward fs; word = y; stack = (λ i. put_at (g.frames i) dst y (g.stack i)) ∙ put-storing none fs dst y words; chain = g.chain }
-  converted dst t (WordOr.Refused e) g n = go (is_ok e) refl n
-    where
-      go : (b : Bool) → is_ok e ≡ b → let o = pick b (after (next_pc t) Answer.Resume) (after t (Answer.Refused e)) in number_of o.answer ≡ 0 → Gone (Cont.Dyn dst) o.world
-      go true q n = record { frames = ap (on_top step_pc) g.frames ∙ on-ward fs; word = standing (some dst) fs words; stack = g.stack ∙ stands (some dst) fs words; chain = g.chain }
-      go false q n = no_both (eq-eqb (Faults.number_of e) 0 n) q
+  converted dst t (Ok y) g r n = record { frames = ap (on_top step_pc) g.frames ∙ on-ward fs; word = y; stack = (λ i. put_at (g.frames i) dst y (g.stack i)) ∙ put-storing none fs dst y words; chain = g.chain }
+  converted dst t (Err e) g r n = no_both (eq-eqb (Faults.number_of e) 0 n) (r e refl)
 
   finished_as : (c : Cont) → is_body c ≡ false → number_of (finish_as c f fs kind x w).answer ≡ 0 → Gone c (finish_as c f fs kind x w).world
   unfolding apply_cont pick words
@@ -292,7 +288,8 @@ module _ (kind : ResultKind) (x : ℕ) (f : Frame) (fs : List Frame) (w : World)
   finished_as (Cont.Write dst) b n =
       let r = result_of kind x in
       record { frames = ap (on_top step_pc) (wrote-frames dst r) ∙ on-ward fs; word = (wrote dst r).0; stack = (wrote dst r).1; chain = wrote-chain dst r }
-  finished_as (Cont.Dyn dst) b n = let o = to_dyn kind x (pop_to f fs w) in converted dst o.world o.answer (dyn-same kind x (pop_to f fs w)) n
+  finished_as (Cont.Dyn dst) b n = let o = to_dyn kind x (pop_to f fs w) in converted dst o.world o.answer (dyn-same kind x (pop_to f fs w))
+      (λ e q. refused-at is_zero refl refl refl (refused-dyn is_zero refl refl refl kind x (pop_to f fs w)) q) n
   finished_as (Cont.Value dst) b n = record { frames = on-ward fs; word = or_nil (result_of kind x); stack = put-storing none fs dst (or_nil (result_of kind x)) words; chain = refl }
   finished_as Cont.Discard b n = record { frames = on-ward fs; word = 0; stack = refl; chain = refl }
   finished_as Cont.Coro b n = no_both refl b

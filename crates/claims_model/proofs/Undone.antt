@@ -31,9 +31,8 @@ use Rattle.model.specs.Call.{Call, SetUp, Do}
 use Rattle.model.specs.Step as M
 use Rattle.model.specs.Step.{call, tested, step}
 use Rattle.model.specs.declared.machine.Charge.{Charge}
-use Rattle.model.specs.declared.coro.Stated.{Stated}
+use Rattle.std.specs.Prelude.{Some, Ok}
 use Rattle.model.specs.declared.exec.Step.{Step}
-use Rattle.model.specs.declared.call.OptPc.{OptPc}
 use Rattle.model.specs.declared.call.Op.{Op}
 use Rattle.model.specs.declared.call.Answer.{Answer}
 use Rattle.claims_model.specs.Engine.{Seen, seen_created, seen_in, state_is}
@@ -82,7 +81,7 @@ module _ (c : ℕ) (k : Core) (r : Rest) (new : is_created k.state ≡ true) (v 
       ends_as
       (ap (λ n. close_to (coro_state v n) p dst n (reg v src) v) f
       ∙ ap (λ y. close_to (state_as y (not_a v c)) p dst c (reg v src) v) e
-      ∙ ap (λ s. close_to (Stated.In s) p dst c (reg v src) v) (is-created k.state new)) (record { number = refl; seen = there-seen c CoroState.Returned nil v refl e })
+      ∙ ap (λ s. close_to (Ok s) p dst c (reg v src) v) (is-created k.state new)) (record { number = refl; seen = there-seen c CoroState.Returned nil v refl e })
 
   throw-ends : (p dst q src : ℕ) → reg v q ≡ c → Ends c 17 (ended_as CoroState.Failed (reg v src)) (resume_throw p dst q src v)
   unfolding resume_throw pick
@@ -90,7 +89,7 @@ module _ (c : ℕ) (k : Core) (r : Rest) (new : is_created k.state ≡ true) (v 
       ends_as
       (ap (λ n. throw_to (coro_state v n) p dst n (reg v src) v) f
       ∙ ap (λ y. throw_to (state_as y (not_a v c)) p dst c (reg v src) v) e
-      ∙ ap (λ s. throw_to (Stated.In s) p dst c (reg v src) v) (is-created k.state new)) (record { number = refl; seen = there-seen c CoroState.Failed (reg v src) v refl e })
+      ∙ ap (λ s. throw_to (Ok s) p dst c (reg v src) v) (is-created k.state new)) (record { number = refl; seen = there-seen c CoroState.Failed (reg v src) v refl e })
 
 -- ---- the instruction: no cleanup comes first
 
@@ -117,11 +116,11 @@ instr-ends w c n y o p ok a arm n10 n12 n13 e h owes = gate (is_nil w.frames) ok
     paid ch (c-spent v r) q = other 10 v n10 (ap (λ z. (core_in z).seen) (coro-alike (alike r) c))
     paid ch (c-close m u z x t) q = no-entry q x
 
-    gate : (b d : Bool) → pick b E.nobody (pick (not d) E.nobody (E.charged (charge (OptPc.Some p) w).answer w (E.aimed a w))) ≡ E.nobody
-        → LeavesSeen w c n y (pick b (refused w Fault.NoFrame) (pick (not d) (refused w Fault.BadOperand) (and_then (charge (OptPc.Some p) w) (Gate.charged arm))))
+    gate : (b d : Bool) → pick b E.nobody (pick (not d) E.nobody (E.charged (charge (Some p) w).answer w (E.aimed a w))) ≡ E.nobody
+        → LeavesSeen w c n y (pick b (refused w Fault.NoFrame) (pick (not d) (refused w Fault.BadOperand) (and_then (charge (Some p) w) (Gate.charged arm))))
     gate true d q = other 12 w n12 refl
     gate false false q = other 13 w n13 refl
-    gate false true q = paid (charge (OptPc.Some p) w) (charge-case p w) q
+    gate false true q = paid (charge (Some p) w) (charge-case p w) q
 
 -- ---- the two calls
 
@@ -248,10 +247,10 @@ module _ (w : World) (c : ℕ) (e : coro w c ≡ Absent) where
           go (yes q) = no_both (ap (λ y. is_nil (core_in y).frames) e) (ap (λ y. is_nil (core_at w y).frames) q ∙ t.solid)
           go (no q) = subst P (sym (ap (λ (y : Seat). y.seen) (t.others c q))) now
 
-      gate : (b d : Bool) → P (core_at (pick b (refused w Fault.NoFrame) (pick (not d) (refused w Fault.BadOperand) (and_then (charge (OptPc.Some p) w) (Gate.charged arm)))).world c).seen
+      gate : (b d : Bool) → P (core_at (pick b (refused w Fault.NoFrame) (pick (not d) (refused w Fault.BadOperand) (and_then (charge (Some p) w) (Gate.charged arm)))).world c).seen
       gate true d = now
       gate false false = now
-      gate false true = paid (charge (OptPc.Some p) w) (charge-case p w)
+      gate false true = paid (charge (Some p) w) (charge-case p w)
 
   instr-stays : (p : ℕ) (ok : Bool) (arm : World → After Step) → ((v : World) → Alike p w v → (core_at (arm v).world c).seen ≡ (core_at w c).seen) → (core_at (instruction p ok arm w).world c).seen ≡ (core_at w c).seen
   instr-stays p ok arm owes = instr-any (λ x. x ≡ (core_at w c).seen) refl p ok arm owes

@@ -17,7 +17,8 @@ use Rattle.model.specs.Call.{Call, SetUp, Do}
 use Rattle.model.specs.Step.{call}
 use Rattle.model.specs.declared.machine.Driver.{Driver}
 use Rattle.model.specs.declared.machine.Frame.{Frame}
-use Rattle.model.specs.declared.coro.WordOr.{WordOr}
+use Rattle.std.specs.Prelude.{Result, Ok}
+use Rattle.heap.specs.declared.fault.Fault.{Fault}
 use Rattle.model.specs.declared.call.Op.{Op}
 use Rattle.model.specs.declared.call.Answer.{Answer}
 use Rattle.claims_model.specs.Engine.{Turn, turn_call, turn_fuel, run_turns, seen_in}
@@ -93,14 +94,14 @@ closing-seen Absent = refl
 closing-seen (Is k r) = refl
 
 -- who leaves by a finish returns, and has recorded its result
-result-alike : (kind : ResultKind) (x : ℕ) (v : World) (r : ℕ) → ((y : ℕ) → (to_dyn kind x v).answer ≡ WordOr.Word y → r ≡ y) → (y : ℕ) → (to_dyn kind x v).answer ≡ WordOr.Word y → result_of kind x r ≡ made_word (to_dyn kind x v).answer
+result-alike : (kind : ResultKind) (x : ℕ) (v : World) (r : ℕ) → ((y : ℕ) → (to_dyn kind x v).answer ≡ Ok y → r ≡ y) → (y : ℕ) → (to_dyn kind x v).answer ≡ Ok y → result_of kind x r ≡ made_word (to_dyn kind x v).answer
 unfolding to_dyn
 result-alike ResultKind.None x v r h y e = refl
 result-alike ResultKind.Dyn x v r h y e = refl
 result-alike ResultKind.I64 x v r h y e = h y e ∙ ap made_word (sym e)
 result-alike ResultKind.U64 x v r h y e = h y e ∙ ap made_word (sym e)
 
-one-made : {m : WordOr} {x y : ℕ} → m ≡ WordOr.Word x → m ≡ WordOr.Word y → x ≡ y
+one-made : {m : Result ℕ Fault} {x y : ℕ} → m ≡ Ok x → m ≡ Ok y → x ≡ y
 one-made p q = ap made_word (sym p ∙ q)
 
 finish-event : (kind : ResultKind) (x : ℕ) (v : World) (c : ℕ) (o : After Answer) → is_running (core_at v c).state ≡ true → has_left (core_at o.world c).state ≡ true

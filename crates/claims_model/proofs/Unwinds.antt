@@ -22,8 +22,7 @@ use Rattle.model.specs.Sound.{sound, running_ok, runs, coros, runs_among}
 use Rattle.model.specs.Answer.{number_of}
 use Rattle.model.specs.declared.machine.Active.{Active}
 use Rattle.model.specs.declared.machine.Frame.{Frame}
-use Rattle.model.specs.declared.coro.WordOr.{WordOr}
-use Rattle.model.specs.declared.call.OptPc.{OptPc}
+use Rattle.std.specs.Prelude.{Option as RustOption, Result, Some, None, Ok}
 use Rattle.model.specs.declared.call.Answer.{Answer}
 use Rattle.claims_model.specs.Engine as Engine
 use Rattle.claims_model.specs.Held.{at}
@@ -93,17 +92,17 @@ module _ (w : World) (h : sound w ≡ true) where
   frames-ended : (x : ℕ) (fs : List Frame) (u : World) → Sees (view_of w) u → u.frames ≡ fs → u.chain ≡ w.chain → Ended (view u) (search_frames x u) (escaped (view_of w) x fs w.chain)
   frames-ended x fs u s p q = subst (λ cs. Ended (view u) (search_frames x u) (escaped (view_of w) x fs cs)) q (subst (λ gs. Ended (view u) (search_frames x u) (escaped (view_of w) x gs u.chain)) p (search-ended (view_of w) x (top_func u.frames) (top_pc u.frames) u.frames u refl s))
 
-  stored-works : (pc : OptPc) {z : View} → Worked none m-ending (view (store_some pc w)) z → Worked none m-ending (view w) z
-  stored-works OptPc.None t = t
-  stored-works (OptPc.Some p) t = tops (set_pc p) (keeps-pc p) tt t
+  stored-works : (pc : RustOption ℕ) {z : View} → Worked none m-ending (view (store_some pc w)) z → Worked none m-ending (view w) z
+  stored-works None t = t
+  stored-works (Some p) t = tops (set_pc p) (keeps-pc p) tt t
 
-  pub stored-sees : (pc : OptPc) → Sees (view_of w) (store_some pc w)
-  stored-sees OptPc.None = sees w h
-  stored-sees (OptPc.Some p) = let s = sees w h in record { handlers = s.handlers; coros = s.coros }
+  pub stored-sees : (pc : RustOption ℕ) → Sees (view_of w) (store_some pc w)
+  stored-sees None = sees w h
+  stored-sees (Some p) = let s = sees w h in record { handlers = s.handlers; coros = s.coros }
 
-  pub word-ended : (x : ℕ) (pc : OptPc) → Ended (view w) (search_frames x (store_some pc w)) (raised_at (view_of w) (some x) pc)
-  word-ended x OptPc.None = frames-ended x w.frames w (sees w h) refl refl
-  word-ended x (OptPc.Some p) = then-ended (λ y t. tops (set_pc p) (keeps-pc p) tt t) (frames-ended x (at p w.frames) (store_pc p w) (stored-sees (OptPc.Some p)) (at_top p w.frames) refl)
+  pub word-ended : (x : ℕ) (pc : RustOption ℕ) → Ended (view w) (search_frames x (store_some pc w)) (raised_at (view_of w) (some x) pc)
+  word-ended x None = frames-ended x w.frames w (sees w h) refl refl
+  word-ended x (Some p) = then-ended (λ y t. tops (set_pc p) (keeps-pc p) tt t) (frames-ended x (at p w.frames) (store_pc p w) (stored-sees (Some p)) (at_top p w.frames) refl)
 
   -- with the error object made
   pub made-sees : (f : Fault) (u : World) → u.slots ≡ w.slots → u.setup ≡ w.setup → u.chain ≡ w.chain → Sees (view_of w) (with_used (sat_add u.used u.setup.costs.error) (with_slots (push_object u.slots (error_of f u)) u))
@@ -123,8 +122,8 @@ module _ (w : World) (h : sound w ≡ true) where
       y : World
       y = with_used (sat_add u.used u.setup.costs.error) (with_slots (push_object u.slots (error_of f u)) u)
 
-      made : (a b : Bool) → After WordOr
-      made a b = pick a (refuse u Fault.OutOfMemory) (pick b (refuse u Fault.Full) (after y (WordOr.Word (next_word u.slots))))
+      made : (a b : Bool) → After (Result ℕ Fault)
+      made a b = pick a (refuse u Fault.OutOfMemory) (pick b (refuse u Fault.Full) (after y (Ok (next_word u.slots))))
 
       same : Same u y
       same = record { setup = refl; stack = refl; frames = refl; chain = refl; coros = push-coros u.slots (error_of f u) refl }
@@ -134,12 +133,12 @@ module _ (w : World) (h : sound w ≡ true) where
       go false true = e-works done
       go false false = ended-counted (then-ended (λ z t. same-worked same t) (subst (λ xs. Ended (view y) (search_frames (next_word u.slots) y) (escaped (view_of w) (next_word xs) fs w.chain)) es (frames-ended (next_word u.slots) fs y (made-sees f u es e q) p q)))
 
-  object-ended : (f : Fault) (pc : OptPc) → let u = store_some pc w in let o = and_then (alloc u.setup.costs.error (error_of f u) u) search_made in Ended (view w) o (counted o.answer (raised_at (view_of w) (some (next_word w.slots)) pc))
-  object-ended f OptPc.None = object-at f w w.frames refl refl refl refl
-  object-ended f (OptPc.Some p) = then-ended (λ y t. tops (set_pc p) (keeps-pc p) tt t) (object-at f (store_pc p w) (at p w.frames) refl refl (at_top p w.frames) refl)
+  object-ended : (f : Fault) (pc : RustOption ℕ) → let u = store_some pc w in let o = and_then (alloc u.setup.costs.error (error_of f u) u) search_made in Ended (view w) o (counted o.answer (raised_at (view_of w) (some (next_word w.slots)) pc))
+  object-ended f None = object-at f w w.frames refl refl refl refl
+  object-ended f (Some p) = then-ended (λ y t. tops (set_pc p) (keeps-pc p) tt t) (object-at f (store_pc p w) (at p w.frames) refl refl (at_top p w.frames) refl)
 
   -- WHO RETURNS BY AN UNWIND
-  pub unwind-ended : (f : Fault) (pc : OptPc) → Ended (view w) (unwind f pc w) (counted (unwind f pc w).answer (raised_at (view_of w) (raised (view_of w) f) pc))
+  pub unwind-ended : (f : Fault) (pc : RustOption ℕ) → Ended (view w) (unwind f pc w) (counted (unwind f pc w).answer (raised_at (view_of w) (raised (view_of w) f) pc))
   unfolding unwind pick
   unwind-ended Fault.None pc = e-works done
   unwind-ended Fault.NullReference pc = object-ended Fault.NullReference pc

@@ -14,7 +14,7 @@ use Rattle.model.specs.Cleanup.{coro_suspended}
 use Rattle.model.specs.Calls.{Instruction, table}
 use Rattle.model.specs.declared.exec.Step.{Step}
 use Rattle.model.specs.declared.machine.Driver.{Driver}
-use Rattle.model.specs.declared.call.OptPc.{OptPc}
+use Rattle.std.specs.Prelude.{Option}
 use Rattle.model.specs.declared.call.Op.{Op}
 use Rattle.claims_invariant.specs.Kept as Kept
 use Rattle.claims_model.specs.Engine.{seen_created, seen_running, seen_awaiting, seen_suspended, seen_returned, seen_in, state_is}
@@ -145,7 +145,7 @@ pub data Alike : E.Act → Announced → Type 0 where
   l-at : (pc : ℕ) (ok : Bool) (a : E.Aim) → Alike (E.at pc ok a) (instr pc ok (aim_of a))
   l-host : (c x : ℕ) → Alike (E.by_host c x) (hosts c x)
   l-finish : (kind : ResultKind) (x : ℕ) → Alike (E.finishes kind x) (finishes kind x)
-  l-raise : (f : Fault) (pc : OptPc) → Alike E.unwinds (raises f pc)
+  l-raise : (f : Fault) (pc : Option ℕ) → Alike E.unwinds (raises f pc)
   l-other : Alike E.other other
 
 -- what an instruction is after
@@ -160,7 +160,7 @@ pub data Kind (w : World) : Op → E.Act → Announced → Type 0 where
       → Kind w o (E.at pc (ok w) a) (instr pc (ok w) (aim_of a))
   k-host : (c x : ℕ) → Kind w (Op.HostEntry c x) (E.by_host c x) (hosts c x)
   k-finish : (kind : ResultKind) (x : ℕ) → Kind w (Op.Finish kind x) (E.finishes kind x) (finishes kind x)
-  k-raise : (f : Fault) (pc : OptPc) → Kind w (Op.Unwind f pc) E.unwinds (raises f pc)
+  k-raise : (f : Fault) (pc : Option ℕ) → Kind w (Op.Unwind f pc) E.unwinds (raises f pc)
   k-other : {o : Op} → Kept.raises (table o) ≡ true → Kind w o E.other other
 
 alike : {w : World} {o : Op} {a : E.Act} {d : Announced} → Kind w o a d → Alike a d

@@ -9,7 +9,7 @@ use lib.ListN.{length}
 use lib.Dec.{eqb, ltb, leb}
 use borrow.Author.Tests.{leb-true, leb-false, le-ltb, lt-ltb, eqb-true, ne_eqb}
 use Rattle.lists.specs.Pick.{pick}
-use Rattle.heap.specs.declared.value.Opt.{Opt}
+use Rattle.std.specs.Prelude.{Option as RustOption, Some, None}
 use Rattle.model.specs.Lists.{is_nil}
 use Rattle.model.specs.State.{is_resumable}
 use Rattle.model.specs.Object.{Coroutine, Absent, Is}
@@ -24,7 +24,6 @@ use Rattle.model.specs.declared.machine.Frame.{Frame}
 use Rattle.model.specs.declared.machine.Fuel.{Fuel}
 use Rattle.model.specs.declared.machine.Charge.{Charge}
 use Rattle.model.specs.declared.coro.Started.{Started}
-use Rattle.model.specs.declared.call.OptPc.{OptPc}
 use Rattle.model.specs.declared.call.Op.{Op}
 use Rattle.claims_model.specs.Engine.{seen_created, seen_suspended, seen_in, state_is}
 use Rattle.claims_model.specs.Says.{Announced, Entry, entry, fits, own_entry, cleaned, banked, charged, whom_by, whom, nothing, gets, closes}
@@ -113,7 +112,7 @@ told-first pc E.nobody y = refl
 told-first pc (E.entry c d x) y = refl
 
 charge-says : (p : ℕ) (w : World) (e : E.Entry)
-    → E.charged (charge (OptPc.Some p) w).answer w e ≡ pick (eqb w.fuel.fuel 0) (pick (eqb (banked w.fuel.bank) 0) E.nobody (pick w.fuel.ready (first (E.cleaned w.finalize w) e) e)) e
+    → E.charged (charge (Some p) w).answer w e ≡ pick (eqb w.fuel.fuel 0) (pick (eqb (banked w.fuel.bank) 0) E.nobody (pick w.fuel.ready (first (E.cleaned w.finalize w) e) e)) e
 unfolding charge charge_slow start_finalizer pick
 charge-says p w e = fast (eqb w.fuel.fuel 0) refl
   where
@@ -131,19 +130,19 @@ charge-says p w e = fast (eqb w.fuel.fuel 0) refl
     ready true = start (start_from 0 w.finalize u) (start-case p w u su 0 w.finalize)
     ready false = refl
 
-    same-ready : (b : Opt) (f : Fuel) → (unbank_at b f).ready ≡ f.ready
-    same-ready Opt.None f = refl
-    same-ready (Opt.Some n) f = refl
+    same-ready : (b : RustOption ℕ) (f : Fuel) → (unbank_at b f).ready ≡ f.ready
+    same-ready None f = refl
+    same-ready (Some n) f = refl
 
-    left : (b : Opt) → eqb w.fuel.fuel 0 ≡ true → (unbank_at b w.fuel).fuel ≡ banked b
-    left Opt.None q = eqb-true w.fuel.fuel 0 q
-    left (Opt.Some n) q = refl
+    left : (b : RustOption ℕ) → eqb w.fuel.fuel 0 ≡ true → (unbank_at b w.fuel).fuel ≡ banked b
+    left None q = eqb-true w.fuel.fuel 0 q
+    left (Some n) q = refl
 
-    slow : (b : Bool) → E.charged (pick b (after (unbank w) Charge.Spent) (charge_at (OptPc.Some p) (unbank w))).answer w e ≡ pick b E.nobody (pick w.fuel.ready (first (E.cleaned w.finalize w) e) e)
+    slow : (b : Bool) → E.charged (pick b (after (unbank w) Charge.Spent) (charge_at (Some p) (unbank w))).answer w e ≡ pick b E.nobody (pick w.fuel.ready (first (E.cleaned w.finalize w) e) e)
     slow true = refl
     slow false = ready (unbank w).fuel.ready ∙ ap (λ b. pick b (first (E.cleaned w.finalize w) e) e) (same-ready w.fuel.bank w.fuel)
 
-    fast : (b : Bool) → eqb w.fuel.fuel 0 ≡ b → E.charged (pick b (charge_slow (OptPc.Some p) w) (after (spend w) (Charge.Done 0))).answer w e ≡ pick b (pick (eqb (banked w.fuel.bank) 0) E.nobody (pick w.fuel.ready (first (E.cleaned w.finalize w) e) e)) e
+    fast : (b : Bool) → eqb w.fuel.fuel 0 ≡ b → E.charged (pick b (charge_slow (Some p) w) (after (spend w) (Charge.Done 0))).answer w e ≡ pick b (pick (eqb (banked w.fuel.bank) 0) E.nobody (pick w.fuel.ready (first (E.cleaned w.finalize w) e) e)) e
     fast false q = refl
     fast true q = slow (eqb (unbank w).fuel.fuel 0) ∙ ap (λ n. pick (eqb n 0) E.nobody (pick w.fuel.ready (first (E.cleaned w.finalize w) e) e)) (left w.fuel.bank q)
 
@@ -160,7 +159,7 @@ not-pick false x y = refl
 
 module _ (w : World) (h : sound w ≡ true) where
   -- with whoever was to be entered
-  pub charged-by : (pc : ℕ) (e : E.Entry) → charged (view_of w) pc (told pc e) ≡ told pc (E.charged (charge (OptPc.Some pc) w).answer w e)
+  pub charged-by : (pc : ℕ) (e : E.Entry) → charged (view_of w) pc (told pc e) ≡ told pc (E.charged (charge (Some pc) w).answer w e)
   charged-by pc e =
       (λ i. pick (eqb w.fuel.fuel 0) (pick (eqb (banked w.fuel.bank) 0) none (pick w.fuel.ready (or_else (cleaned-told w h pc w.finalize i) (told pc e)) (told pc e))) (told pc e))
       ∙ ap (λ y. pick (eqb w.fuel.fuel 0) (pick (eqb (banked w.fuel.bank) 0) none (pick w.fuel.ready y (told pc e))) (told pc e)) (told-first pc q e)
@@ -172,12 +171,12 @@ module _ (w : World) (h : sound w ≡ true) where
       q : E.Entry
       q = E.cleaned w.finalize w
 
-  charged-told : (pc : ℕ) (a : E.Aim) → charged (view_of w) pc (own_entry (view_of w) pc (aim_of a)) ≡ told pc (E.charged (charge (OptPc.Some pc) w).answer w (aimed a w))
+  charged-told : (pc : ℕ) (a : E.Aim) → charged (view_of w) pc (own_entry (view_of w) pc (aim_of a)) ≡ told pc (E.charged (charge (Some pc) w).answer w (aimed a w))
   charged-told pc a = ap (charged (view_of w) pc) (named-aimed w h pc a) ∙ charged-by pc (aimed a w)
 
   whom-alike : {a : E.Act} {d : Announced} → Alike a d → whom_by (view_of w) d ≡ told (pc_by a) (entry_by a w)
   whom-alike (l-at pc ok a) =
-      let x = E.charged (charge (OptPc.Some pc) w).answer w (aimed a w) in
+      let x = E.charged (charge (Some pc) w).answer w (aimed a w) in
       (λ i. pick (is_none w.frames i) none (pick ok (charged-told pc a i) none))
       ∙ ap (pick (is_nil w.frames) none) (not-pick ok (told pc x) none ∙ told-pick pc (not ok) E.nobody x)
       ∙ told-pick pc (is_nil w.frames) E.nobody (pick (not ok) E.nobody x)

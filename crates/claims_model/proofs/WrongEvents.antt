@@ -7,7 +7,7 @@ use mathlib.Core.Bool.{true}
 use mathlib.Core.Option.{Option, none, some, or_else}
 use Rattle.lists.specs.Pick.{pick}
 use Rattle.heap.specs.declared.fault.Fault.{Fault}
-use Rattle.heap.specs.declared.value.Opt.{Opt}
+use Rattle.std.specs.Prelude.{Option as RustOption, Some, None}
 use Rattle.heap.specs.declared.object.CoroState.{CoroState}
 use Rattle.heap.specs.declared.heap.ResultKind.{ResultKind}
 use Rattle.model.specs.Object.{with_closing}
@@ -18,7 +18,6 @@ use Rattle.model.specs.Answer.{number_of}
 use Rattle.model.specs.Call.{SetUp, Do, as_call}
 use Rattle.model.specs.Compute.{computed}
 use Rattle.model.specs.declared.machine.Driver.{Driver}
-use Rattle.model.specs.declared.call.OptPc.{OptPc}
 use Rattle.model.specs.declared.call.Op.{Op}
 use Rattle.claims_model.specs.Engine.{Seen, Rules, View, code, seen_created, seen_running, seen_returned, state_is}
 use Rattle.claims_model.specs.Says.{nothing, gets, closes, Entry}
@@ -61,9 +60,9 @@ abbrev state_in : Option Seen → ℕ
 state_in none = 9
 state_in (some x) = code x.state
 
-abbrev value : Opt → ℕ
-value Opt.None = 0
-value (Opt.Some n) = n
+abbrev value : RustOption ℕ → ℕ
+value None = 0
+value (Some n) = n
 
 -- ---- each of them
 
@@ -124,7 +123,7 @@ events-heard h = let q : ◌≡◌ {A = ℕ} 0 6 = h c closed (as_call (Op.Yield
 
 events-returns : Refuted Events (λ e v. v.returns) failure_returns
 unfolding computed begun
-events-returns h = no_word (h c begun (as_call (Op.Unwind (Fault.Throw 7) OptPc.None) refl) (record { before = refl; after = refl }))
+events-returns h = no_word (h c begun (as_call (Op.Unwind (Fault.Throw 7) None) refl) (record { before = refl; after = refl }))
 
 events-returned : Refuted Events (λ e v. v.returned) return_fails
 unfolding computed begun
@@ -136,12 +135,12 @@ events-fails h = no-lost _ (h c begun (as_call (Op.Finish ResultKind.Dyn 5) refl
 
 events-failed : Refuted Events (λ e v. v.failed) failure_returns
 unfolding computed begun
-events-failed h = no_both (h c begun (as_call (Op.Unwind (Fault.Throw 7) OptPc.None) refl) (sound-healthy begun refl) refl (escapes (Fault.Throw 7) OptPc.None refl refl)).after refl
+events-failed h = no_both (h c begun (as_call (Op.Unwind (Fault.Throw 7) None) refl) (sound-healthy begun refl) refl (escapes (Fault.Throw 7) None refl refl)).after refl
 
 events-spoilt : Refuted Events (λ e v. v.spoilt) (reaching seen_failed result5)
 unfolding computed begun
 events-spoilt h =
-    let q : ◌≡◌ {A = ℕ} 5 7 = ap recorded (h c begun (as_call (Op.Unwind (Fault.Throw 7) OptPc.None) refl) (Fault.Throw 7) OptPc.None 7 (record { before = refl; after = refl }) refl refl) in
+    let q : ◌≡◌ {A = ℕ} 5 7 = ap recorded (h c begun (as_call (Op.Unwind (Fault.Throw 7) None) refl) (Fault.Throw 7) None 7 (record { before = refl; after = refl }) refl refl) in
     absurd (omega (arith, q))
 
 events-stopped : Refuted Events (λ e v. v.stopped) (reaching seen_failed result5)
@@ -177,7 +176,7 @@ events-word h =
 events-closed : Refuted Events (λ e v. v.closed) returns5
 unfolding computed dying
 events-closed h =
-    let q : ◌≡◌ {A = ℕ} 5 0 = h c dying (as_call (Op.Unwind (Fault.Throw 9) OptPc.None) refl) (Fault.Throw 9) OptPc.None (record { before = refl; after = refl }) refl in
+    let q : ◌≡◌ {A = ℕ} 5 0 = h c dying (as_call (Op.Unwind (Fault.Throw 9) None) refl) (Fault.Throw 9) None (record { before = refl; after = refl }) refl in
     absurd (omega (arith, q))
 
 events-yielded : Refuted Events (λ e v. v.yielded) (leaving_at Altered.yield (λ w z. change_coro c (λ k. k) (with_closing true) z))
@@ -250,7 +249,7 @@ healthy (Do o) e = ap (λ p. pick (lost_in begun.chain (M.tested begun p).world)
 
 failure-answers-9 : Events failure_answers9 → ⊥
 unfolding computed begun
-failure-answers-9 v = no_both (v.failed c begun (as_call (Op.Unwind (Fault.Throw 7) OptPc.None) refl) healthy refl (thrown 7 OptPc.None refl)).after refl
+failure-answers-9 v = no_both (v.failed c begun (as_call (Op.Unwind (Fault.Throw 7) None) refl) healthy refl (thrown 7 None refl)).after refl
 
 -- NONE OF THEM
 pub refuted-events : RefutedEvents

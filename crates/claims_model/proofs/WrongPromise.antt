@@ -20,7 +20,7 @@ use Rattle.model.specs.Call.{Call, SetUp, Do, as_call}
 use Rattle.model.specs.Compute.{computed}
 use Rattle.model.specs.declared.machine.Cont.{Cont}
 use Rattle.model.specs.declared.machine.Driver.{Driver}
-use Rattle.model.specs.declared.call.OptPc.{OptPc}
+use Rattle.std.specs.Prelude.{None}
 use Rattle.model.specs.declared.call.Op.{Op}
 use Rattle.claims_model.specs.Engine.{View, Turn, turn_fuel}
 use Rattle.claims_model.specs.Demand3.{Demand3}
@@ -153,13 +153,13 @@ accepts-finish h =
 accepts-throw : Refuted Accepts (λ e v. v.throw) (answering_at Altered.unwind 17)
 unfolding computed raising
 accepts-throw h =
-    let q : ◌≡◌ {A = ℕ} 17 0 = h raising (as_call (Op.Unwind (Fault.Throw 9) OptPc.None) refl) 9 OptPc.None (at-healthy Altered.unwind 17 raising refl refl) refl in
+    let q : ◌≡◌ {A = ℕ} 17 0 = h raising (as_call (Op.Unwind (Fault.Throw 9) None) refl) 9 None (at-healthy Altered.unwind 17 raising refl refl) refl in
     absurd (omega (arith, q))
 
 accepts-raise : Refuted Accepts (λ e v. v.raise) (answering_at Altered.unwind 9)
 unfolding computed begun
 accepts-raise h =
-    let q : ◌≡◌ {A = ℕ} 9 17 = h begun (as_call (Op.Unwind Fault.TypeError OptPc.None) refl) Fault.TypeError OptPc.None Story.d (at-healthy Altered.unwind 9 begun refl refl) refl (λ y e. no-throw e) refl in
+    let q : ◌≡◌ {A = ℕ} 9 17 = h begun (as_call (Op.Unwind Fault.TypeError None) refl) Fault.TypeError None Story.d (at-healthy Altered.unwind 9 begun refl refl) refl (λ y e. no-throw e) refl in
     absurd (omega (arith, q))
   where
     no-throw : {y : ℕ} → Fault.TypeError ≡ Fault.Throw y → ⊥
@@ -168,7 +168,7 @@ accepts-raise h =
 accepts-pass : Refuted Accepts (λ e v. v.pass) (answering_at Altered.unwind 17)
 unfolding computed begun
 accepts-pass h =
-    let q : ◌≡◌ {A = ℕ} 17 9 = h begun (as_call (Op.Unwind Fault.OutOfMemory OptPc.None) refl) Fault.OutOfMemory OptPc.None (at-healthy Altered.unwind 17 begun refl refl) refl refl in
+    let q : ◌≡◌ {A = ℕ} 17 9 = h begun (as_call (Op.Unwind Fault.OutOfMemory None) refl) Fault.OutOfMemory None (at-healthy Altered.unwind 17 begun refl refl) refl refl in
     absurd (omega (arith, q))
 
 -- ---- soundness

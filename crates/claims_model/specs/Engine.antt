@@ -1,8 +1,7 @@
 -- An engine, and what is seen of it. All that is claimed here is claimed of an engine, whatever it is made of: it cites types and
 -- list functions, and no definition of the machine (what a call announces, Says.antt says in words of its own).
-use Rattle.std.specs.Prelude.{ℕ, Bool, false, ◌||◌, List, [], ◌∷◌, eqb}
+use Rattle.std.specs.Prelude.{ℕ, Bool, false, ◌||◌, List, [], ◌∷◌, eqb, Option as RustOption}
 use Rattle.std.proofs.Math.Option.{Option, none, some}
-use Rattle.heap.specs.declared.value.Opt.{Opt}
 use Rattle.heap.specs.declared.object.CoroState.{CoroState}
 use Rattle.model.specs.declared.program.Handler.{Handler}
 use Rattle.model.specs.declared.machine.Frame.{Frame}
@@ -61,7 +60,7 @@ pub record View : Type 0 where
   pub fresh : ℕ
   pub full : Bool
   -- the integer that a word stands for, as 64 bits
-  pub integer : ℕ → Opt
+  pub integer : ℕ → RustOption ℕ
   -- the bytes in use
   pub used : ℕ
 

@@ -1,10 +1,9 @@
 -- The events are exact: who is entered, suspended or returns in a call follows from what is seen before it and from its number, one a
 -- call. So an engine that refuses what 01 accepts, or makes of a return a failure, has not this.
-use Rattle.std.specs.Prelude.{ℕ, ◌≡◌, ◌⊎◌, Bool, true, false, not, ◌&&◌, ◌||◌, List, [], ◌∷◌, eqb, ltb, leb}
+use Rattle.std.specs.Prelude.{ℕ, ◌≡◌, ◌⊎◌, Bool, true, false, not, ◌&&◌, ◌||◌, List, [], ◌∷◌, eqb, ltb, leb, Option as RustOption, Some, None}
 use Rattle.std.proofs.Math.Option.{Option, none, some}
 use Rattle.lists.specs.Pick.{pick}
 use Rattle.heap.specs.declared.fault.Fault.{Fault}
-use Rattle.heap.specs.declared.value.Opt.{Opt}
 use Rattle.heap.specs.declared.object.CoroState.{CoroState}
 use Rattle.heap.specs.declared.heap.ResultKind.{ResultKind}
 use Rattle.model.specs.declared.program.Handler.{Handler}
@@ -12,7 +11,6 @@ use Rattle.model.specs.declared.machine.Cont.{Cont}
 use Rattle.model.specs.declared.machine.Driver.{Driver}
 use Rattle.model.specs.declared.machine.Active.{Active}
 use Rattle.model.specs.declared.machine.Frame.{Frame}
-use Rattle.model.specs.declared.call.OptPc.{OptPc}
 use Rattle.model.specs.declared.call.Op.{Op}
 use Rattle.claims_model.specs.Engine.{Seen, View, Engine, code, seen_created, seen_running, seen_awaiting, seen_suspended, seen_returned, seen_in, state_is}
 use Rattle.claims_model.specs.Says.{register_word, Sent, nothing, gets, closes, Aim, enter, suspend, neither, Announced, instr, hosts, finishes, raises, other, announced_by, banked, whom}
@@ -135,10 +133,10 @@ raised v Fault.Busy = none
 raised v Fault.GrantTooLarge = none
 raised v (Fault.Throw x) = some x
 
-abbrev pub raised_at : View → Option ℕ → OptPc → Option ℕ
+abbrev pub raised_at : View → Option ℕ → RustOption ℕ → Option ℕ
 raised_at v none pc = none
-raised_at v (some x) OptPc.None = escaped v x v.frames v.chain
-raised_at v (some x) (OptPc.Some pc) = escaped v x (at pc v.frames) v.chain
+raised_at v (some x) None = escaped v x v.frames v.chain
+raised_at v (some x) (Some pc) = escaped v x (at pc v.frames) v.chain
 
 -- the body of a coroutine is on top
 abbrev pub on_body : List Frame → Bool
@@ -181,10 +179,10 @@ abbrev pub lost : View → ℕ → List Frame → List Active → List ℕ
 lost v x [] chain = []
 lost v x (f ∷ fs) chain = pick (caught (v.rules.handlers f.func) f.pc) [] (losing f.cont v x chain (lost v x fs))
 
-abbrev pub lost_at : View → Option ℕ → OptPc → List ℕ
+abbrev pub lost_at : View → Option ℕ → RustOption ℕ → List ℕ
 lost_at v none pc = []
-lost_at v (some x) OptPc.None = lost v x v.frames v.chain
-lost_at v (some x) (OptPc.Some pc) = lost v x (at pc v.frames) v.chain
+lost_at v (some x) None = lost v x v.frames v.chain
+lost_at v (some x) (Some pc) = lost v x (at pc v.frames) v.chain
 
 -- ---- what an unwind answers
 
@@ -207,15 +205,15 @@ abbrev pub unwind_number : View → ℕ → List Frame → List Active → ℕ
 unwind_number v x [] chain = 17
 unwind_number v x (f ∷ fs) chain = pick (caught (v.rules.handlers f.func) f.pc) (handled v) (ending f.cont v x chain (unwind_number v x fs))
 
-abbrev pub unwind_number_at : View → ℕ → OptPc → ℕ
-unwind_number_at v x OptPc.None = unwind_number v x v.frames v.chain
-unwind_number_at v x (OptPc.Some pc) = unwind_number v x (at pc v.frames) v.chain
+abbrev pub unwind_number_at : View → ℕ → RustOption ℕ → ℕ
+unwind_number_at v x None = unwind_number v x v.frames v.chain
+unwind_number_at v x (Some pc) = unwind_number v x (at pc v.frames) v.chain
 
 -- who fails: by an unwind of a word, whatever it answers; of a fault, but where its error object could not be made (9, 14); all, where
 -- the run is stopped. A thrown word is both of the first two: it needs no object, so its number does not matter
 pub data Lost (v : View) (n c : ℕ) : Option Op → Type 0 where
-  thrown : (x : ℕ) (pc : OptPc) → among c (lost_at v (some x) pc) ≡ true → Lost v n c (some (Op.Unwind (Fault.Throw x) pc))
-  escapes : (f : Fault) (pc : OptPc) → (eqb n 9 || eqb n 14) ≡ false → among c (lost_at v (raised v f) pc) ≡ true → Lost v n c (some (Op.Unwind f pc))
+  thrown : (x : ℕ) (pc : RustOption ℕ) → among c (lost_at v (some x) pc) ≡ true → Lost v n c (some (Op.Unwind (Fault.Throw x) pc))
+  escapes : (f : Fault) (pc : RustOption ℕ) → (eqb n 9 || eqb n 14) ≡ false → among c (lost_at v (raised v f) pc) ≡ true → Lost v n c (some (Op.Unwind f pc))
   stops : Lost v n c (some Op.StopRun)
 
 -- what is seen of one that is finished: nothing is saved any more, and nothing closes it
@@ -284,7 +282,7 @@ pub record Events (e : Engine) : Type 0 where
   -- and of those that run, all whom the word leaves so, or a stop finds, fail, where the machine is not refused
   pub failed : (c : ℕ) (s : e.State) (k : e.Call) → Healthy e s → state_is (e.view s) seen_running c ≡ true → Lost (e.view s) (e.number s k) c (e.op k) → Fails e c s k
   -- the result of one that fails is the word that was raised; where the run is stopped, nil
-  pub spoilt : (c : ℕ) (s : e.State) (k : e.Call) (f : Fault) (pc : OptPc) (x : ℕ) → Fails e c s k → e.op k ≡ some (Op.Unwind f pc) → raised (e.view s) f ≡ some x
+  pub spoilt : (c : ℕ) (s : e.State) (k : e.Call) (f : Fault) (pc : RustOption ℕ) (x : ℕ) → Fails e c s k → e.op k ≡ some (Op.Unwind f pc) → raised (e.view s) f ≡ some x
       → (e.view (e.next s k)).coro c ≡ ended_as CoroState.Failed x
   pub stopped : (c : ℕ) (s : e.State) (k : e.Call) → Fails e c s k → e.op k ≡ some Op.StopRun → (e.view (e.next s k)).coro c ≡ ended_as CoroState.Failed 0
   -- of one that has not begun, where no cleanup comes first: a close that is answered 0 has it return nil, a throw that is answered 17
@@ -295,12 +293,12 @@ pub record Events (e : Engine) : Type 0 where
       → (e.view (e.next s k)).coro c ≡ pick (eqb (e.number s k) 17) (ended_as CoroState.Failed (register_word (e.view s) src)) ((e.view s).coro c)
   -- an integer that is returned is recorded as a word that stands for it
   pub integer : (c : ℕ) (s : e.State) (k : e.Call) (kind : ResultKind) (x : ℕ) → Returns e c s k → e.op k ≡ some (Op.Finish kind x) → is_integer kind ≡ true
-      → let z = e.view (e.next s k) in z.integer (recorded (z.coro c)) ≡ Opt.Some x
+      → let z = e.view (e.next s k) in z.integer (recorded (z.coro c)) ≡ Some x
   -- a word, or none, is recorded as it is returned
   pub word : (c : ℕ) (s : e.State) (k : e.Call) (kind : ResultKind) (x : ℕ) → Returns e c s k → e.op k ≡ some (Op.Finish kind x) → is_integer kind ≡ false
       → recorded ((e.view (e.next s k)).coro c) ≡ result_of kind x 0
   -- a close that its own signal ends is recorded as nil
-  pub closed : (c : ℕ) (s : e.State) (k : e.Call) (f : Fault) (pc : OptPc) → Returns e c s k → e.op k ≡ some (Op.Unwind f pc) → recorded ((e.view (e.next s k)).coro c) ≡ 0
+  pub closed : (c : ℕ) (s : e.State) (k : e.Call) (f : Fault) (pc : RustOption ℕ) → Returns e c s k → e.op k ≡ some (Op.Unwind f pc) → recorded ((e.view (e.next s k)).coro c) ≡ 0
   -- a yield ends a closing; else it lasts as long as the coroutine lives (who is entered: `Entered.closing`)
   pub yielded : (c : ℕ) (s : e.State) (k : e.Call) → Suspends e c s k → let z = e.view (e.next s k) in closer (z.coro c) ≡ pick (state_is z seen_awaiting c) (closer ((e.view s).coro c)) none
   pub closing : (c : ℕ) (s : e.State) (k : e.Call) → (Restarts e s k → ⊥) → (Enters e c s k → ⊥) → (Suspends e c s k → ⊥)

@@ -1,8 +1,7 @@
 -- The operands that a call of 01 can have, by their types: registers have 16 bits, argument counts 8, pc and function numbers 32, words
 -- 64. A continuation's register is the machine's to test.
-use Rattle.std.specs.Prelude.{ℕ, ◌^◌, Bool, true, ◌&&◌, List, [], ◌∷◌, ltb}
+use Rattle.std.specs.Prelude.{ℕ, ◌^◌, Bool, true, ◌&&◌, List, [], ◌∷◌, ltb, Option, Some, None}
 use Rattle.heap.specs.Fault.{word_of}
-use Rattle.model.specs.declared.call.OptPc.{OptPc}
 use Rattle.model.specs.declared.call.Op.{Op}
 
 abbrev pub bits : ℕ → ℕ → Bool
@@ -12,9 +11,9 @@ abbrev pub are_registers : List ℕ → Bool
 are_registers [] = true
 are_registers (r ∷ rs) = bits 16 r && are_registers rs
 
-abbrev pub stored : OptPc → Bool
-stored OptPc.None = true
-stored (OptPc.Some pc) = bits 32 pc
+abbrev pub stored : Option ℕ → Bool
+stored None = true
+stored (Some pc) = bits 32 pc
 
 abbrev pub operands_fit : Op → Bool
 operands_fit (Op.CoroNew pc dst f argc) = bits 32 pc && bits 16 dst && bits 32 f && bits 8 argc

@@ -1,15 +1,13 @@
 -- ALL THAT IS PROMISED of an engine, in one record: demand 3, events that are exact, what other calls leave alone, what a creation makes,
 -- what is asked, what is accepted, soundness that is kept, set-ups and looks, and that none of it is empty. `step` has it (`promise` in proofs/Promise.antt).
-use Rattle.std.specs.Prelude.{ℕ, ◌+◌, ◌-◌, ◌*◌, ◌^◌, min, ◌≡◌, Bool, true, false, ◌||◌, List, [], ◌∷◌, ◌++◌, length, drop, eqb, ltb, leb}
+use Rattle.std.specs.Prelude.{ℕ, ◌+◌, ◌-◌, ◌*◌, ◌^◌, min, ◌≡◌, Bool, true, false, ◌||◌, List, [], ◌∷◌, ◌++◌, length, drop, eqb, ltb, leb, Option as RustOption, Some, None}
 use Rattle.std.proofs.Math.Option.{Option, none, some}
 use Rattle.lists.specs.Pick.{pick}
 use Rattle.heap.specs.Fault.{number_of}
 use Rattle.heap.specs.declared.fault.Fault.{Fault}
-use Rattle.heap.specs.declared.value.Opt.{Opt}
 use Rattle.heap.specs.declared.heap.ResultKind.{ResultKind}
 use Rattle.model.specs.declared.machine.Frame.{Frame}
 use Rattle.model.specs.declared.machine.Fuel.{Fuel}
-use Rattle.model.specs.declared.call.OptPc.{OptPc}
 use Rattle.model.specs.declared.call.Op.{Op}
 use Rattle.claims_model.specs.Engine.{Seen, View, Engine, Turn, run_turns, seen_created, state_is}
 use Rattle.claims_model.specs.Operands.{operands_fit}
@@ -77,23 +75,23 @@ pub record Accepts (e : Engine) : Type 0 where
   pub integer : (s : e.State) (k : e.Call) (kind : ResultKind) (x : ℕ) → Healthy e s → e.op k ≡ some (Op.Finish kind x) → IntFits (e.view s) → converts kind x ≡ true → e.number s k ≡ 0
   pub finish : (s : e.State) (k : e.Call) (kind : ResultKind) (x : ℕ) → Healthy e s → e.op k ≡ some (Op.Finish kind x) → plain kind ≡ true → e.number s k ≡ 0
   -- what an unwind answers: of a word, and of 1 to 8, whose error object has to be made
-  pub throw : (s : e.State) (k : e.Call) (x : ℕ) (pc : OptPc) → Healthy e s → e.op k ≡ some (Op.Unwind (Fault.Throw x) pc) → e.number s k ≡ unwind_number_at (e.view s) x pc
-  pub raise : (s : e.State) (k : e.Call) (f : Fault) (pc : OptPc) (x : ℕ) → Healthy e s → e.op k ≡ some (Op.Unwind f pc) → ((y : ℕ) → f ≡ Fault.Throw y → ⊥) → raised (e.view s) f ≡ some x
+  pub throw : (s : e.State) (k : e.Call) (x : ℕ) (pc : RustOption ℕ) → Healthy e s → e.op k ≡ some (Op.Unwind (Fault.Throw x) pc) → e.number s k ≡ unwind_number_at (e.view s) x pc
+  pub raise : (s : e.State) (k : e.Call) (f : Fault) (pc : RustOption ℕ) (x : ℕ) → Healthy e s → e.op k ≡ some (Op.Unwind f pc) → ((y : ℕ) → f ≡ Fault.Throw y → ⊥) → raised (e.view s) f ≡ some x
       → let v = e.view s in e.number s k ≡ pick (bytes_fit v v.rules.error_cost) (pick v.full 14 (unwind_number_at v x pc)) 9
   -- 01: "Faults 9 and 10 pass through it unchanged"; 11, where it "gets no such fault"
-  pub pass : (s : e.State) (k : e.Call) (f : Fault) (pc : OptPc) → Healthy e s → e.op k ≡ some (Op.Unwind f pc) → raised (e.view s) f ≡ none → e.number s k ≡ pick (eqb (number_of f) 9 || eqb (number_of f) 10) (number_of f) 11
+  pub pass : (s : e.State) (k : e.Call) (f : Fault) (pc : RustOption ℕ) → Healthy e s → e.op k ≡ some (Op.Unwind f pc) → raised (e.view s) f ≡ none → e.number s k ≡ pick (eqb (number_of f) 9 || eqb (number_of f) 10) (number_of f) 11
 
 -- ---- soundness is kept
 
 -- 01: 11, "set-up .. breaks the rules below, or `unwind` gets no such fault"
 pub data Eleven (v : View) : Option Op → Type 0 where
   sets-up : Eleven v none
-  no-fault : (f : Fault) (pc : OptPc) → raised v f ≡ none → (f ≡ Fault.OutOfMemory → ⊥) → (f ≡ Fault.OutOfFuel → ⊥) → Eleven v (some (Op.Unwind f pc))
+  no-fault : (f : Fault) (pc : RustOption ℕ) → raised v f ≡ none → (f ≡ Fault.OutOfMemory → ⊥) → (f ≡ Fault.OutOfFuel → ⊥) → Eleven v (some (Op.Unwind f pc))
 
 -- 01: "fuel 0 while banked"
-abbrev pub unbanked : Opt → Bool
-unbanked Opt.None = true
-unbanked (Opt.Some n) = false
+abbrev pub unbanked : RustOption ℕ → Bool
+unbanked None = true
+unbanked (Some n) = false
 
 abbrev pub fuel_sound : Fuel → Bool
 fuel_sound f = unbanked f.bank || eqb f.fuel 0
@@ -115,7 +113,7 @@ pub record Fresh (v : View) : Type 0 where
   pub coros : (c : ℕ) → v.coro c ≡ none
   pub loops : (x : ℕ) → v.done x ≡ false
   pub queue : v.queue ≡ []
-  pub fuel : v.fuel ≡ record { fuel = 0; bank = Opt.None; ready = false }
+  pub fuel : v.fuel ≡ record { fuel = 0; bank = None; ready = false }
   pub used : v.used ≡ 0
 
 -- which set-ups are accepted is the table's (claims_sheet/specs/SetUps.antt)

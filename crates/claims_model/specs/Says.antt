@@ -1,16 +1,14 @@
 -- What a call announces, in words of the claims' own: its operands and the registers that they name, limits, the charge, the cleanup that may
 -- come first. And so whom it enters, by which driver, with what word.
-use Rattle.std.specs.Prelude.{ℕ, ◌+◌, Bool, true, false, not, ◌&&◌, ◌||◌, List, [], ◌∷◌, length, get_or, eqb, ltb, leb}
+use Rattle.std.specs.Prelude.{ℕ, ◌+◌, Bool, true, false, not, ◌&&◌, ◌||◌, List, [], ◌∷◌, length, get_or, eqb, ltb, leb, Option as RustOption, Some, None}
 use Rattle.std.proofs.Math.Option.{Option, none, some, or_else}
 use Rattle.lists.specs.Pick.{pick}
 use Rattle.heap.specs.declared.fault.Fault.{Fault}
-use Rattle.heap.specs.declared.value.Opt.{Opt}
 use Rattle.heap.specs.declared.object.CoroState.{CoroState}
 use Rattle.heap.specs.declared.heap.ResultKind.{ResultKind}
 use Rattle.model.specs.declared.machine.Driver.{Driver}
 use Rattle.model.specs.declared.machine.Frame.{Frame}
 use Rattle.model.specs.declared.machine.Fuel.{Fuel}
-use Rattle.model.specs.declared.call.OptPc.{OptPc}
 use Rattle.model.specs.declared.call.Op.{Op}
 use Rattle.claims_model.specs.Engine.{Seen, View, seen_created, seen_awaiting, seen_suspended, seen_in, state_is}
 
@@ -52,7 +50,7 @@ pub data Announced : Type 0 where
   -- the host enters a coroutine, with a word
   hosts : ℕ → ℕ → Announced
   finishes : ResultKind → ℕ → Announced
-  raises : Fault → OptPc → Announced
+  raises : Fault → RustOption ℕ → Announced
   other : Announced
 
 abbrev pub announced : View → Op → Announced
@@ -119,9 +117,9 @@ cleaned v pc [] = none
 cleaned v pc (c ∷ queue) = pick (state_is v seen_suspended c && fits v c) (some (entry c Driver.Finalize (closes 0) pc)) (cleaned v pc queue)
 
 -- what fuel 0 leaves to spend: the bank
-abbrev pub banked : Opt → ℕ
-banked Opt.None = 0
-banked (Opt.Some n) = n
+abbrev pub banked : RustOption ℕ → ℕ
+banked None = 0
+banked (Some n) = n
 
 -- who is entered once it is charged, y being the call's own: with fuel, y; with neither fuel nor bank, nobody; with a bank and cleanups
 -- ready, one that is cleaned up, else y; with a bank only, y

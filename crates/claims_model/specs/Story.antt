@@ -1,9 +1,8 @@
 -- A list of calls with all that a switch can meet. Each part of it is made from a set-up, after which the first word made
 -- is again c.
-use Rattle.std.specs.Prelude.{ℕ, ◌-◌, ◌^◌, ◌≡◌, refl, true, List, [], ◌∷◌, ◌++◌, take, drop, get_or}
+use Rattle.std.specs.Prelude.{ℕ, ◌-◌, ◌^◌, ◌≡◌, refl, true, List, [], ◌∷◌, ◌++◌, take, drop, get_or, Some, None}
 use Rattle.heap.specs.Word.{nil}
 use Rattle.heap.specs.declared.fault.Fault.{Fault}
-use Rattle.heap.specs.declared.value.Opt.{Opt}
 use Rattle.model.specs.Program.{Setup}
 use Rattle.model.specs.Lists.{each, each_first, each-rest}
 use Rattle.model.specs.Call.{Call, SetUp, typed}
@@ -11,7 +10,6 @@ use Rattle.model.specs.Step.{calls}
 use Rattle.model.specs.Example.{plain}
 use Rattle.model.specs.declared.machine.Cont.{Cont}
 use Rattle.heap.specs.declared.heap.ResultKind.{ResultKind}
-use Rattle.model.specs.declared.call.OptPc.{OptPc}
 use Rattle.model.specs.declared.call.Op.{Op}
 
 -- two functions of four registers; the second catches what is thrown at a pc below 100: on at 50, with the word in register 1
@@ -20,13 +18,13 @@ wide =
     record {
       limits = record { depth = 6; stack = 40; rows = 4; slots = 16; memory = 65536 };
       costs = record { frame = 32; coro = 104; object = 160; int = 56; error = 56; iter = 112 };
-      hook = Opt.Some 0;
+      hook = Some 0;
       functions = plain 4 ∷ record { regs = 4; params = 0; handlers = record { start = 0; end = 100; target = 50; catch = 1 } ∷ [] } ∷ [];
     }
 
 -- one that is refused: no depth
 abbrev pub bad : Setup
-bad = record { limits = record { depth = 0; stack = 40; rows = 4; slots = 16; memory = 65536 }; costs = wide.costs; hook = Opt.None; functions = wide.functions }
+bad = record { limits = record { depth = 0; stack = 40; rows = 4; slots = 16; memory = 65536 }; costs = wide.costs; hook = None; functions = wide.functions }
 
 -- function 0 as a word
 abbrev pub f : ℕ
@@ -50,7 +48,7 @@ abbrev pub returns : ℕ → Op
 returns v = Op.Finish ResultKind.Dyn v
 
 abbrev pub throws : ℕ → Op
-throws v = Op.Unwind (Fault.Throw v) OptPc.None
+throws v = Op.Unwind (Fault.Throw v) None
 
 abbrev pub deeper : Op
 deeper = Op.FunctionCall 5 0 Cont.Discard

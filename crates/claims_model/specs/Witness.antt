@@ -1,6 +1,6 @@
 -- The promise is not empty: these are splits of lists of calls in which every premise of demand 3 holds, by computation; what the calls
 -- answer; and one split as literal lists.
-use Rattle.std.specs.Prelude.{ℕ, suc, ◌-◌, ◌≡◌, Bool, true, false, List, [], ◌∷◌, ◌++◌, map, take, drop, get_or}
+use Rattle.std.specs.Prelude.{ℕ, suc, ◌-◌, ◌≡◌, Bool, true, false, List, [], ◌∷◌, ◌++◌, map, take, drop, get_or, None, Ok}
 use Rattle.model.specs.Program.{setup_ok}
 use Rattle.model.specs.World.{World, fresh}
 use Rattle.model.specs.Frames.{top_pc}
@@ -8,12 +8,10 @@ use Rattle.model.specs.Answer.{number_of}
 use Rattle.model.specs.Call.{Call, SetUp}
 use Rattle.model.specs.Coro.{coro_state}
 use Rattle.model.specs.Step.{run, answers}
-use Rattle.heap.specs.declared.value.Opt.{Opt}
 use Rattle.heap.specs.declared.object.CoroState.{CoroState}
 use Rattle.model.specs.declared.machine.Cont.{Cont}
 use Rattle.model.specs.declared.machine.Frame.{Frame}
 use Rattle.model.specs.declared.machine.Fuel.{Fuel}
-use Rattle.model.specs.declared.coro.Stated.{Stated}
 use Rattle.claims_model.specs.Engine.{Turn, turn_call, turn_fuel}
 use Rattle.claims_model.specs.Premises.{premises}
 use Rattle.claims_model.specs.Steps.{steps}
@@ -35,7 +33,7 @@ between ks i j = map turn_call (take (j - suc i) (drop (suc i) ks))
 
 -- another fuel record; and the calls of `with_refused_set_up` between 13 and 23, and then that record
 abbrev pub other : Fuel
-other = record { fuel = 500; bank = Opt.None; ready = false }
+other = record { fuel = 500; bank = None; ready = false }
 
 abbrev pub waiting : List (Turn Call)
 waiting = between with_refused_set_up 13 23 ++ (turn_fuel other ∷ [])
@@ -105,7 +103,7 @@ pub record Witness : Type 0 where
   -- the pc 2^32 - 1 steps to 0
   pub wraps : top_pc (run (fresh wide) (take 21 (part 0))).frames ≡ 0
   -- in part 9 the inner coroutine fails, and the outer one returns
-  pub inner-fails : coro_state (run (fresh wide) (past 10)) d ≡ Stated.In CoroState.Failed
-  pub outer-returns : coro_state (run (fresh wide) (past 10)) c ≡ Stated.In CoroState.Returned
+  pub inner-fails : coro_state (run (fresh wide) (past 10)) d ≡ Ok CoroState.Failed
+  pub outer-returns : coro_state (run (fresh wide) (past 10)) c ≡ Ok CoroState.Returned
   -- `has` = `val` ends as 1
   pub has-is-one : (run (fresh wide) (past 2 ++ take 15 (part 2))).stack ≡ c ∷ d ∷ 1 ∷ 7 ∷ []

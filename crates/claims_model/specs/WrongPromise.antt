@@ -1,10 +1,9 @@
 -- Engines that are wrong in what they accept, in set-ups, looks, fuel records or calls, or lose their soundness, and else are `step`; and the
 -- field that refuses each (`proofs/WrongPromise.antt`).
-use Rattle.std.specs.Prelude.{ℕ, ◌-◌, Bool, true, ◌&&◌, [], ◌∷◌, ◌++◌, length, replicate, eqb, ltb}
+use Rattle.std.specs.Prelude.{ℕ, ◌-◌, Bool, true, ◌&&◌, [], ◌∷◌, ◌++◌, length, replicate, eqb, ltb, None}
 use Rattle.std.proofs.Math.Option.{Option, none, some}
 use Rattle.lists.specs.Pick.{pick}
 use Rattle.heap.specs.Table.{slot}
-use Rattle.heap.specs.declared.value.Opt.{Opt}
 use Rattle.model.specs.Object.{Object}
 use Rattle.model.specs.World.{World, with_stack, with_frames, with_chain, with_slots, with_finalize, with_used, with_fuel}
 use Rattle.model.specs.Answer.{number_of}
@@ -79,7 +78,7 @@ pub record RefutedSetUps : Type 0 where
 
 -- it makes a loop that is done
 abbrev pub loop_left : World → World → World
-loop_left w z = with_slots (z.slots ++ (slot 0 (Object.Iter 0 true Opt.None) ∷ [])) z
+loop_left w z = with_slots (z.slots ++ (slot 0 (Object.Iter 0 true None) ∷ [])) z
 
 -- a set-up leaves one thing as it was, or a loop
 pub record RefutedFresh : Type 0 where

@@ -13,7 +13,7 @@ use Rattle.model.specs.World.{World, After, after}
 use Rattle.model.specs.Answer.{number_of, word_of}
 use Rattle.model.specs.declared.machine.Cont.{Cont}
 use Rattle.model.specs.declared.machine.Frame.{Frame}
-use Rattle.model.specs.declared.call.OptPc.{OptPc}
+use Rattle.std.specs.Prelude.{Option, Some, None}
 use Rattle.model.specs.declared.call.Op.{Op}
 use Rattle.model.specs.declared.call.Answer.{Answer}
 use Rattle.claims_sheet.specs.Lines.{Lines, leads}
@@ -98,7 +98,7 @@ search-thrown : (fs : List Frame) (value f pc : ℕ) (w : World) → Every (λ a
 search-thrown [] value f pc w = (at refl, tt)
 search-thrown (x ∷ xs) value f pc w = (no refl, (no refl, (at refl, (no refl, (no refl, search-thrown xs value f pc (Unwinding.left x xs value w))))))
 
-module _ (e : Fault) (pc : OptPc) (w : World) where
+module _ (e : Fault) (pc : Option ℕ) (w : World) where
   abbrev n : ℕ
   n = Faults.number_of e
 
@@ -124,9 +124,9 @@ module _ (e : Fault) (pc : OptPc) (w : World) where
   own : {x : World} → Worded 17 raised (after x (Answer.Refused e))
   own = record { is = λ h. sym (past (leb n 8) _ (ap (λ m. leb m 8) (same n 17 h)) refl) }
 
-  new_word_lem : (pc : OptPc) → new_word (Unwinding.given_pc_stored pc w) ≡ new_word w
-  new_word_lem OptPc.None = refl
-  new_word_lem (OptPc.Some p) = refl
+  new_word_lem : (pc : Option ℕ) → new_word (Unwinding.given_pc_stored pc w) ≡ new_word w
+  new_word_lem None = refl
+  new_word_lem (Some p) = refl
 
   searched : (value : ℕ) (x : World) → value ≡ raised → Every (λ a. Worded 17 raised a) (Unwinding.search_from_top value x)
   searched value x h = subst (λ v. Every (λ a. Worded 17 v a) (Unwinding.search_from_top value x)) h (search-thrown x.frames value _ _ x)

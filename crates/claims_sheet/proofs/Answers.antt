@@ -10,7 +10,7 @@ use lib.Dec.{eqb, ltb, leb}
 use borrow.Author.Tests.{leb-true, eq-eqb, le-leb, lt-ltb}
 use Rattle.lists.specs.Pick.{pick}
 use Rattle.heap.specs.Table.{Slot, slot}
-use Rattle.heap.specs.declared.value.Opt.{Opt}
+use Rattle.std.specs.Prelude.{None}
 use Rattle.model.specs.Lists.{each, among}
 use Rattle.model.specs.Program.{setup_ok, limits_ok, costs_ok, function_ok, hook_ok, between}
 use Rattle.model.specs.Object.{Object}
@@ -126,16 +126,16 @@ few w h =
 no : {b : Bool} {A : Type 0} → b ≡ true → false ≡ true → A
 no e h = absurd (false≢true h)
 
-made-is : (w : World) (v : ℕ) → sound w ≡ true → let a = leads (table_of (Op.MakeIterator v) w) in eqb (number_of a.answer) 0 ≡ true → found a.world (word_of a.answer) ≡ Object.Iter v false Opt.None
+made-is : (w : World) (v : ℕ) → sound w ≡ true → let a = leads (table_of (Op.MakeIterator v) w) in eqb (number_of a.answer) 0 ≡ true → found a.world (word_of a.answer) ≡ Object.Iter v false None
 made-is w v s =
-    led (λ (a : After Answer). eqb (number_of a.answer) 0 ≡ true → found a.world (word_of a.answer) ≡ Object.Iter v false Opt.None) (table_of (Op.MakeIterator v) w).tests (table_of (Op.MakeIterator v) w).done
-    (no, (no, (no, (no, tt)))) (λ _. lookup w.slots (Object.Iter v false Opt.None) w w.setup.costs.iter refl (few w s))
+    led (λ (a : After Answer). eqb (number_of a.answer) 0 ≡ true → found a.world (word_of a.answer) ≡ Object.Iter v false None) (table_of (Op.MakeIterator v) w).tests (table_of (Op.MakeIterator v) w).done
+    (no, (no, (no, (no, tt)))) (λ _. lookup w.slots (Object.Iter v false None) w w.setup.costs.iter refl (few w s))
 
 iterator-made : (w : World) (v : ℕ) (t : typed (Op.MakeIterator v) ≡ true) → let o = operation (Op.MakeIterator v) t in number w o ≡ 0 →
-    found (step w (Do o)).world (word_of (step w (Do o)).answer) ≡ Object.Iter v false Opt.None
+    found (step w (Do o)).world (word_of (step w (Do o)).answer) ≡ Object.Iter v false None
 iterator-made w v t h =
     ap (λ (a : After Answer). found a.world (word_of a.answer)) (leads-to w (operation (Op.MakeIterator v) t))
-    ∙ by-test (λ (a : After Answer). eqb (number_of a.answer) 0 ≡ true → found a.world (word_of a.answer) ≡ Object.Iter v false Opt.None) (not (sound w)) (λ _ e. absurd (false≢true e)) (λ s. made-is w v (not-false (sound w) s))
+    ∙ by-test (λ (a : After Answer). eqb (number_of a.answer) 0 ≡ true → found a.world (word_of a.answer) ≡ Object.Iter v false None) (not (sound w)) (λ _ e. absurd (false≢true e)) (λ s. made-is w v (not-false (sound w) s))
     (ap (λ a. eqb (number_of a) 0) (sym (answer-is w (operation (Op.MakeIterator v) t))) ∙ ap (λ n. eqb n 0) h)
 
 -- ---- 11 first

@@ -19,8 +19,8 @@ use Rattle.model.specs.Coro.{state_as, coro_state, enter_as, coro_enter, finish_
 use Rattle.model.specs.Exec as Exec
 use Rattle.model.specs.declared.machine.Active.{Active}
 use Rattle.model.specs.declared.machine.Driver.{Driver}
+use Rattle.std.specs.Prelude.{Result, Ok, Err}
 use Rattle.model.specs.declared.coro.Entered.{Entered}
-use Rattle.model.specs.declared.coro.Stated.{Stated}
 use Rattle.model.specs.declared.exec.Step.{Step}
 use Rattle.claims_sheet.specs.Lines.{leads}
 use Rattle.claims_sheet.specs.Words.{word, found, is_coroutine, dead, no_coroutine, is_done, core_of, code, is_in, state, resumable, suspended, too_high}
@@ -74,9 +74,9 @@ then-two g a a' b x y z e = ap (λ t. and_then (pick t x (pick b y z)) g) e ∙ 
     go false true = refl
     go false false = refl
 
-module _ {B : Type 0} (g : World → Entered → After B) (v : ℕ) (d : Driver) (z : World) (saved : Saved z) where
-  entry : Coroutine → Fault → After Entered
-  entry Absent f = after z (Entered.Refused f)
+module _ {B : Type 0} (g : World → Result Entered Fault → After B) (v : ℕ) (d : Driver) (z : World) (saved : Saved z) where
+  entry : Coroutine → Fault → After (Result Entered Fault)
+  entry Absent f = after z (Err f)
   entry (Is k r) f = enter_as (Is k r) v d z
 
   entry-is : (x : Coroutine) → enter_as x v d z ≡ entry x (not_a z v)
@@ -86,12 +86,12 @@ module _ {B : Type 0} (g : World → Entered → After B) (v : ℕ) (d : Driver)
 
   -- the tests of an entry, in order
   pub enter-is : and_then (coro_enter v d z) g
-      ≡ pick (dead z v) (g z (Entered.Refused Fault.NullReference)) (pick (no_coroutine z v) (g z (Entered.Refused Fault.TypeError))
-      (pick (not (resumable (state z v))) (g z (Entered.Refused Fault.InvalidCoroState)) (pick (too_high z v) (g z (Entered.Refused Fault.StackOverflow))
-      (g (entered v d z) (pick (is_created (state z v)) Entered.Fresh (Entered.Suspended (core_of (found z v)).waiting))))))
+      ≡ pick (dead z v) (g z (Err Fault.NullReference)) (pick (no_coroutine z v) (g z (Err Fault.TypeError))
+      (pick (not (resumable (state z v))) (g z (Err Fault.InvalidCoroState)) (pick (too_high z v) (g z (Err Fault.StackOverflow))
+      (g (entered v d z) (pick (is_created (state z v)) (Ok Entered.Fresh) (Ok (Entered.Suspended (core_of (found z v)).waiting)))))))
   unfolding coro_enter entry
   enter-is =
-      ap (λ (e : After Entered). and_then e g) (entry-is (coro z v))
+      ap (λ (e : After (Result Entered Fault)). and_then e g) (entry-is (coro z v))
       ∙ (by_kind (λ x f. and_then (entry x f) g) z v
       ∙ below _ _ (below _ _ (then-two g _ _ (too_high z v) _ _ _ (forbids (found z v) (λ k r e. saved v k r (coro-is z v ∙ e))))))
 
@@ -117,11 +117,11 @@ module _ {A : Type 0} where
 
 -- ---- Resume, ResumeThrow, CoroClose, iter_next
 
-arrive-is : (s d : ℕ) (w : World) (b b' : Bool) → b ≡ b' → Exec.arrive s w (pick b Entered.Fresh (Entered.Suspended d)) ≡ after (pick b' w (sent d s w)) Step.Frame
+arrive-is : (s d : ℕ) (w : World) (b b' : Bool) → b ≡ b' → Exec.arrive s w (pick b (Ok Entered.Fresh) (Ok (Entered.Suspended d))) ≡ after (pick b' w (sent d s w)) Step.Frame
 unfolding pick
-arrive-is s d w b b' e = ap (λ t. Exec.arrive s w (pick t Entered.Fresh (Entered.Suspended d))) e ∙ go b'
+arrive-is s d w b b' e = ap (λ t. Exec.arrive s w (pick t (Ok Entered.Fresh) (Ok (Entered.Suspended d)))) e ∙ go b'
   where
-    go : (b : Bool) → Exec.arrive s w (pick b Entered.Fresh (Entered.Suspended d)) ≡ after (pick b w (sent d s w)) Step.Frame
+    go : (b : Bool) → Exec.arrive s w (pick b (Ok Entered.Fresh) (Ok (Entered.Suspended d))) ≡ after (pick b w (sent d s w)) Step.Frame
     go true = refl
     go false = ap (λ u. after u Step.Frame) (sent_is d s w)
 
@@ -134,7 +134,7 @@ resume-is pc dst c src u saved =
     ∙ (enter-is (Exec.arrive (word u src)) (word u c) (Driver.Resume dst) (pc_stored pc u) saved
     ∙ below _ _ (below _ _ (below _ _ (below _ _ (arrive-is (word u src) _ _ _ _ (creates (state u (word u c))))))))))
 
-throw-is : (s d : ℕ) (w : World) (b : Bool) → Exec.throw_entered s w (pick b Entered.Fresh (Entered.Suspended d)) ≡ after w (Step.Unwind (Fault.Throw s))
+throw-is : (s d : ℕ) (w : World) (b : Bool) → Exec.throw_entered s w (pick b (Ok Entered.Fresh) (Ok (Entered.Suspended d))) ≡ after w (Step.Unwind (Fault.Throw s))
 unfolding pick
 throw-is s d w true = refl
 throw-is s d w false = refl
@@ -143,13 +143,13 @@ pub two-tests : {A : Type 0} (a a' : Bool) {x x' y y' : A} → a ≡ a' → x �
 two-tests a a' e f g = λ i. pick (e i) (f i) (g i)
 
 -- an entry by an instruction, whose pc is stored first; g is what is done once it is in
-abbrev inside : {B : Type 0} → (World → Entered → After B) → After B → World → ℕ → After B
+abbrev inside : {B : Type 0} → (World → Result Entered Fault → After B) → After B → World → ℕ → After B
 inside g done z v =
-    pick (dead z v) (g z (Entered.Refused Fault.NullReference)) (pick (no_coroutine z v) (g z (Entered.Refused Fault.TypeError))
-    (pick (not (resumable (state z v))) (g z (Entered.Refused Fault.InvalidCoroState)) (pick (too_high z v) (g z (Entered.Refused Fault.StackOverflow)) done)))
+    pick (dead z v) (g z (Err Fault.NullReference)) (pick (no_coroutine z v) (g z (Err Fault.TypeError))
+    (pick (not (resumable (state z v))) (g z (Err Fault.InvalidCoroState)) (pick (too_high z v) (g z (Err Fault.StackOverflow)) done)))
 
-goes_in : {B : Type 0} (g : World → Entered → After B) (v : ℕ) (d : Driver) (pc : ℕ) (u : World) → Saved u → (done : After B) →
-    g (entered v d (pc_stored pc u)) (pick (is_created (state u v)) Entered.Fresh (Entered.Suspended (core_of (found u v)).waiting)) ≡ done →
+goes_in : {B : Type 0} (g : World → Result Entered Fault → After B) (v : ℕ) (d : Driver) (pc : ℕ) (u : World) → Saved u → (done : After B) →
+    g (entered v d (pc_stored pc u)) (pick (is_created (state u v)) (Ok Entered.Fresh) (Ok (Entered.Suspended (core_of (found u v)).waiting))) ≡ done →
     and_then (coro_enter v d (store_pc pc u)) g ≡ inside g done (pc_stored pc u) v
 goes_in g v d pc u saved done e =
     ap (λ z. and_then (coro_enter v d z) g) (stored pc u) ∙ (enter-is g v d (pc_stored pc u) saved ∙ below _ _ (below _ _ (below _ _ (below _ _ e))))
@@ -171,13 +171,13 @@ resume-throw-is pc dst c src u saved =
     err = word u src
 
 close-is : (s d v : ℕ) (by : Driver) (w : World) (b : Bool) → is_coroutine (found w v) ≡ true →
-    Exec.close_entered v s (entered v by w) (pick b Entered.Fresh (Entered.Suspended d)) ≡ after (entered_closing s v by w) (Step.Unwind (Fault.Throw s))
+    Exec.close_entered v s (entered v by w) (pick b (Ok Entered.Fresh) (Ok (Entered.Suspended d))) ≡ after (entered_closing s v by w) (Step.Unwind (Fault.Throw s))
 unfolding pick
 close-is s d v by w true h = ap (λ u. after u (Step.Unwind (Fault.Throw s))) (closing-is s v by w h)
 close-is s d v by w false h = ap (λ u. after u (Step.Unwind (Fault.Throw s))) (closing-is s v by w h)
 
 closes : (s : CoroState) (pc dst c signal : ℕ) (u : World) →
-    Exec.close_to (Stated.In s) pc dst c signal u
+    Exec.close_to (Ok s) pc dst c signal u
     ≡ pick (is_in (CoroState.Running ∷ []) s) (Exec.fault u Fault.InvalidCoroState) (pick (is_in (CoroState.Created ∷ []) s) (Exec.put dst nil (finish_coroutine c CoroState.Returned nil u))
     (pick (not (suspended s)) (Exec.put dst nil u) (Exec.close_in pc dst c signal u)))
 unfolding pick

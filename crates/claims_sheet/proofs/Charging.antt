@@ -8,7 +8,8 @@ use lib.ListN.{get_or, drop}
 use lib.Dec.{eqb}
 use Rattle.lists.specs.Pick.{pick}
 use Rattle.heap.specs.declared.fault.Fault.{Fault}
-use Rattle.heap.specs.declared.value.Opt.{Opt}
+use Rattle.std.specs.Prelude.{Option, Result, Some, None, Ok, Err}
+use Rattle.model.specs.declared.coro.Entered.{Entered}
 use Rattle.heap.specs.declared.object.CoroState.{CoroState}
 use Rattle.model.specs.Lists.{is_nil}
 use Rattle.model.specs.State.{is_created, is_suspended, is_resumable}
@@ -23,9 +24,7 @@ use Rattle.model.specs.Cleanup.{coro_suspended, is_entered, close, started, star
 use Rattle.model.specs.declared.machine.Driver.{Driver}
 use Rattle.model.specs.declared.machine.Fuel.{Fuel}
 use Rattle.model.specs.declared.machine.Charge.{Charge}
-use Rattle.model.specs.declared.coro.Entered.{Entered}
 use Rattle.model.specs.declared.coro.Started.{Started}
-use Rattle.model.specs.declared.call.OptPc.{OptPc}
 use Rattle.claims_sheet.specs.Words.{found, is_coroutine, core_of, rest_of, state, suspended}
 use Rattle.claims_sheet.specs.Moves.{pc_stored, entered, entered_closing}
 use Rattle.claims_sheet.specs.Charging.{amount, reserve, fuelled, used_up, bank_back, searches, closable, queue_from, taken, cleanup, charged, lost}
@@ -38,9 +37,9 @@ use Rattle.claims_sheet.proofs.Asking.{Saved}
 pub unbank-is : (w : World) → unbank w ≡ bank_back w
 unbank-is w = ap (λ f. with_fuel f w) (go w.fuel.bank w.fuel refl)
   where
-    go : (b : Opt) (f : Fuel) → f.bank ≡ b → unbank_at b f ≡ record { fuel = amount b f.fuel; bank = Opt.None; ready = f.ready }
-    go Opt.None f e = λ i. record { fuel = f.fuel; bank = e i; ready = f.ready }
-    go (Opt.Some n) f e = refl
+    go : (b : Option ℕ) (f : Fuel) → f.bank ≡ b → unbank_at b f ≡ record { fuel = amount b f.fuel; bank = None; ready = f.ready }
+    go None f e = λ i. record { fuel = f.fuel; bank = e i; ready = f.ready }
+    go (Some n) f e = refl
 
 -- ---- the search
 
@@ -55,23 +54,23 @@ suspends CoroState.Failed = refl
 abbrev entered_by : Coroutine → ℕ → World → Bool
 entered_by x c y = coro_suspended x && is_entered (enter_as x c Driver.Finalize y).answer
 
-starts_by : (s : CoroState) (none high b : Bool) (y : World) (z : After Entered) (d : ℕ) → z.answer ≡ pick b Entered.Fresh (Entered.Suspended d) → (is_resumable s ≡ true → none ≡ false) →
-    is_suspended s && is_entered (pick (not (is_resumable s) || none) (after y (Entered.Refused Fault.InvalidCoroState)) (pick high (after y (Entered.Refused Fault.StackOverflow)) z)).answer ≡ suspended s && not high
+starts_by : (s : CoroState) (none high b : Bool) (y : World) (z : After (Result Entered Fault)) (d : ℕ) → z.answer ≡ pick b (Ok Entered.Fresh) (Ok (Entered.Suspended d)) → (is_resumable s ≡ true → none ≡ false) →
+    is_suspended s && is_entered (pick (not (is_resumable s) || none) (after y (Err Fault.InvalidCoroState)) (pick high (after y (Err Fault.StackOverflow)) z)).answer ≡ suspended s && not high
 unfolding pick
 starts_by CoroState.Created none high b y z d e h = refl
 starts_by CoroState.Running none high b y z d e h = refl
 starts_by CoroState.Yielded none high b y z d e h = go none high b (h refl) e
   where
-    go : (none high b : Bool) → none ≡ false → z.answer ≡ pick b Entered.Fresh (Entered.Suspended d) →
-        is_entered (pick none (after y (Entered.Refused Fault.InvalidCoroState)) (pick high (after y (Entered.Refused Fault.StackOverflow)) z)).answer ≡ not high
+    go : (none high b : Bool) → none ≡ false → z.answer ≡ pick b (Ok Entered.Fresh) (Ok (Entered.Suspended d)) →
+        is_entered (pick none (after y (Err Fault.InvalidCoroState)) (pick high (after y (Err Fault.StackOverflow)) z)).answer ≡ not high
     go true high b h e = absurd (true≢false h)
     go false true b h e = refl
     go false false true h e = ap is_entered e
     go false false false h e = ap is_entered e
 starts_by CoroState.Awaiting none high b y z d e h = go none high b (h refl) e
   where
-    go : (none high b : Bool) → none ≡ false → z.answer ≡ pick b Entered.Fresh (Entered.Suspended d) →
-        is_entered (pick none (after y (Entered.Refused Fault.InvalidCoroState)) (pick high (after y (Entered.Refused Fault.StackOverflow)) z)).answer ≡ not high
+    go : (none high b : Bool) → none ≡ false → z.answer ≡ pick b (Ok Entered.Fresh) (Ok (Entered.Suspended d)) →
+        is_entered (pick none (after y (Err Fault.InvalidCoroState)) (pick high (after y (Err Fault.StackOverflow)) z)).answer ≡ not high
     go true high b h e = absurd (true≢false h)
     go false true b h e = refl
     go false false true h e = ap is_entered e
@@ -93,8 +92,8 @@ closable-as (Object.Iter s d k) c y h = refl
 closable-as (Object.Error e f p x) c y h = refl
 closable-as (Object.Coro k r) c y h = starts_by k.state (is_nil k.frames) (overflows k y) (is_created k.state) y _ k.waiting refl (h k r refl)
 
-goes_by : (s : CoroState) (none high : Bool) (y : World) (z : After Entered) → (is_resumable s ≡ true → none ≡ false) → suspended s && not high ≡ true →
-    pick (not (is_resumable s) || none) (after y (Entered.Refused Fault.InvalidCoroState)) (pick high (after y (Entered.Refused Fault.StackOverflow)) z) ≡ z
+goes_by : (s : CoroState) (none high : Bool) (y : World) (z : After (Result Entered Fault)) → (is_resumable s ≡ true → none ≡ false) → suspended s && not high ≡ true →
+    pick (not (is_resumable s) || none) (after y (Err Fault.InvalidCoroState)) (pick high (after y (Err Fault.StackOverflow)) z) ≡ z
 unfolding pick
 goes_by CoroState.Created none high y z h k = absurd (false≢true k)
 goes_by CoroState.Running none high y z h k = absurd (false≢true k)
@@ -114,18 +113,18 @@ goes-as (Object.Func f) c y h k = absurd (false≢true k)
 goes-as (Object.Int n) c y h k = absurd (false≢true k)
 goes-as (Object.Iter s d q) c y h k = absurd (false≢true k)
 goes-as (Object.Error e f p x) c y h k = absurd (false≢true k)
-goes-as (Object.Coro k r) c y h t = ap (λ (a : After Entered). a.world) (goes_by k.state (is_nil k.frames) (overflows k y) y _ (h k r refl) t)
+goes-as (Object.Coro k r) c y h t = ap (λ (a : After (Result Entered Fault)). a.world) (goes_by k.state (is_nil k.frames) (overflows k y) y _ (h k r refl) t)
 
 -- the search from a world whose bank is taken back
 module _ (n : ℕ) (rd : Bool) (y₀ : World) (saved : Saved y₀) where
   abbrev y : World
-  y = fuelled n Opt.None rd y₀
+  y = fuelled n None rd y₀
 
   abbrev begun : List ℕ → World
-  begun l = fuelled n Opt.None false (with_finalizing true (entered_closing 0 (get_or l 0 0) Driver.Finalize (with_finalize (drop 1 l) y)))
+  begun l = fuelled n None false (with_finalizing true (entered_closing 0 (get_or l 0 0) Driver.Finalize (with_finalize (drop 1 l) y)))
 
   abbrev gone : World
-  gone = fuelled n Opt.None false (with_finalizing false (with_finalize [] y))
+  gone = fuelled n None false (with_finalizing false (with_finalize [] y))
 
   abbrev found_first : List ℕ → ℕ → After Started
   found_first l m = pick (not (is_nil l)) (after (begun l) (started true m)) (after gone (started false m))
@@ -208,21 +207,21 @@ module _ (pc : ℕ) (w : World) (saved : Saved w) where
           let k : 0 + taken y₁ w.finalize ≡ taken y₁ w.finalize = omega arith in
           k ∙ taken-same y₁ z (λ c. refl) w.finalize
 
-  unarmed : (rd : Bool) → rd ≡ false → with_fuel (pick rd (record { fuel = 0; bank = Opt.Some (reserve w - 1); ready = rd }) (record { fuel = reserve w - 1; bank = Opt.None; ready = rd })) w ≡ fuelled (reserve w - 1) Opt.None false w
+  unarmed : (rd : Bool) → rd ≡ false → with_fuel (pick rd (record { fuel = 0; bank = Some (reserve w - 1); ready = rd }) (record { fuel = reserve w - 1; bank = None; ready = rd })) w ≡ fuelled (reserve w - 1) None false w
   unfolding pick
   unarmed true h = absurd (true≢false h)
   unarmed false h = refl
 
   none_left : charge_done (taken z w.finalize) (gone (reserve w) w.fuel.ready z saved)
-      ≡ after (fuelled (reserve w - 1) Opt.None false (with_finalizing false (with_finalize [] z))) (Charge.Done (taken z w.finalize))
+      ≡ after (fuelled (reserve w - 1) None false (with_finalizing false (with_finalize [] z))) (Charge.Done (taken z w.finalize))
   unfolding pick
   none_left = refl
 
-  pub charge-is : charge (OptPc.Some pc) w
+  pub charge-is : charge (Some pc) w
       ≡ pick (used_up w) (after (bank_back w) Charge.Spent) (pick (searches w && not (is_nil (queue_from z w.finalize))) (after (cleanup pc w) (Charge.Close (lost pc w))) (after (charged pc w) (Charge.Done (lost pc w))))
   unfolding charge charge_slow
   charge-is =
-      ap (λ x. pick (eqb w.fuel.fuel 0) (pick (eqb x.fuel.fuel 0) (after x Charge.Spent) (charge_at (OptPc.Some pc) x)) (after (spend w) (Charge.Done 0))) (unbank-is w)
+      ap (λ x. pick (eqb w.fuel.fuel 0) (pick (eqb x.fuel.fuel 0) (after x Charge.Spent) (charge_at (Some pc) x)) (after (spend w) (Charge.Done 0))) (unbank-is w)
       ∙ (ap (λ s. pick (eqb w.fuel.fuel 0) (pick (eqb (reserve w) 0) (after (bank_back w) Charge.Spent) (pick w.fuel.ready (charge_or s) (charge_done 0 (bank_back w)))) (after (spend w) (Charge.Done 0))) search_is
       ∙ combine (eqb w.fuel.fuel 0) (eqb (reserve w) 0) w.fuel.ready (not (is_nil (queue_from z w.finalize))) (bank_back w) (spend w) (cleanup pc w) _ _ _ (taken z w.finalize) (charge_done 0 (bank_back w))
       (λ e. ap (λ x. after x (Charge.Done 0)) (unarmed w.fuel.ready e)) none_left)

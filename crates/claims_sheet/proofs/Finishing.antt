@@ -9,8 +9,7 @@ use Rattle.lists.specs.Pick.{pick, pick_true, pick-false}
 use Rattle.heap.specs.Coding.{in_range, of_bits}
 use Rattle.heap.proofs.Coding.{bits-of, of_range}
 use Rattle.heap.specs.declared.fault.Fault.{Fault}
-use Rattle.heap.specs.declared.value.Opt.{Opt}
-use Rattle.heap.specs.declared.int.Exact.{Exact}
+use Rattle.std.specs.Prelude.{Option, Result, Some, None, Ok, Err}
 use Rattle.heap.specs.declared.heap.ResultKind.{ResultKind}
 use Rattle.heap.specs.declared.object.CoroState.{CoroState}
 use Rattle.model.specs.World.{World, After, after, and_then, with_chain, with_frames}
@@ -22,7 +21,6 @@ use Rattle.model.specs.declared.machine.Active.{Active}
 use Rattle.model.specs.declared.machine.Cont.{Cont}
 use Rattle.model.specs.declared.machine.Driver.{Driver}
 use Rattle.model.specs.declared.machine.Frame.{Frame}
-use Rattle.model.specs.declared.coro.WordOr.{WordOr}
 use Rattle.model.specs.declared.call.Answer.{Answer}
 use Rattle.claims_sheet.specs.Lines.{leads_from, leads, accept}
 use Rattle.claims_sheet.specs.Words.{lacks_memory, no_slot}
@@ -40,8 +38,8 @@ use Rattle.claims_sheet.proofs.Yields.{encode-is}
 abbrev Converts : ResultKind → ℕ → World → Type 0
 Converts k v x =
     to_dyn k v x
-    ≡ pick (too_large k v) (after x (WordOr.Refused Fault.ArithOverflow)) (pick (is_object k v && lacks_memory x x.setup.costs.int) (after x (WordOr.Refused Fault.OutOfMemory))
-    (pick (is_object k v && no_slot x) (after x (WordOr.Refused Fault.Full)) (after (converted k v x) (WordOr.Word (dynamic k v x)))))
+    ≡ pick (too_large k v) (after x (Err Fault.ArithOverflow)) (pick (is_object k v && lacks_memory x x.setup.costs.int) (after x (Err Fault.OutOfMemory))
+    (pick (is_object k v && no_slot x) (after x (Err Fault.Full)) (after (converted k v x) (Ok (dynamic k v x)))))
 
 not-lt : (m n : ℕ) → not (ltb m n) ≡ leb n m
 not-lt m n = go (ltb m n) refl
@@ -50,7 +48,7 @@ not-lt m n = go (ltb m n) refl
     go true e = sym (lt-leb n m (ltb-true m n e))
     go false e = sym (le-true n m (ltb-false m n e))
 
-convert-by : (v : ℕ) (x : World) (b : Bool) → encode_exact (pick b (Exact.Fits v) Exact.Over) x ≡ pick (not b) (after x (WordOr.Refused Fault.ArithOverflow)) (encode_int v x)
+convert-by : (v : ℕ) (x : World) (b : Bool) → encode_exact (pick b (Some v) None) x ≡ pick (not b) (after x (Err Fault.ArithOverflow)) (encode_int v x)
 unfolding pick
 convert-by v x true = refl
 convert-by v x false = refl
@@ -60,15 +58,15 @@ unfolding to_dyn pick
 converts ResultKind.None v x h = refl
 converts ResultKind.Dyn v x h = refl
 converts ResultKind.I64 v x h =
-    (λ i. encode_exact (pick (ranged i) (Exact.Fits (bits-of 63 v h i)) Exact.Over) x) ∙ encode-is v x
+    (λ i. encode_exact (pick (ranged i) (Some (bits-of 63 v h i)) None) x) ∙ encode-is v x
   where
     ranged : in_range 63 (of_bits 63 v) ≡ true
     ranged = le-true _ _ (of_range 63 v h)
-converts ResultKind.U64 v x h = convert-by v x (ltb v (2 ^ 63)) ∙ (λ i. pick (not-lt v (2 ^ 63) i) (after x (WordOr.Refused Fault.ArithOverflow)) (encode-is v x i))
+converts ResultKind.U64 v x h = convert-by v x (ltb v (2 ^ 63)) ∙ (λ i. pick (not-lt v (2 ^ 63) i) (after x (Err Fault.ArithOverflow)) (encode-is v x i))
 
-module _ {B : Type 0} (g : World → WordOr → After B) (k : ResultKind) (v : ℕ) (x : World) (h : v < 2 ^ 64) where
-  convert-then : (a b c : Bool) (y : World) (n : ℕ) → and_then (pick a (after x (WordOr.Refused Fault.ArithOverflow)) (pick b (after x (WordOr.Refused Fault.OutOfMemory)) (pick c (after x (WordOr.Refused Fault.Full)) (after y (WordOr.Word n))))) g
-      ≡ pick a (g x (WordOr.Refused Fault.ArithOverflow)) (pick b (g x (WordOr.Refused Fault.OutOfMemory)) (pick c (g x (WordOr.Refused Fault.Full)) (g y (WordOr.Word n))))
+module _ {B : Type 0} (g : World → Result ℕ Fault → After B) (k : ResultKind) (v : ℕ) (x : World) (h : v < 2 ^ 64) where
+  convert-then : (a b c : Bool) (y : World) (n : ℕ) → and_then (pick a (after x (Err Fault.ArithOverflow)) (pick b (after x (Err Fault.OutOfMemory)) (pick c (after x (Err Fault.Full)) (after y (Ok n))))) g
+      ≡ pick a (g x (Err Fault.ArithOverflow)) (pick b (g x (Err Fault.OutOfMemory)) (pick c (g x (Err Fault.Full)) (g y (Ok n))))
   unfolding pick
   convert-then true b c y n = refl
   convert-then false true c y n = refl
@@ -76,9 +74,9 @@ module _ {B : Type 0} (g : World → WordOr → After B) (k : ResultKind) (v : �
   convert-then false false false y n = refl
 
   convert-is : and_then (to_dyn k v x) g
-      ≡ pick (too_large k v) (g x (WordOr.Refused Fault.ArithOverflow)) (pick (is_object k v && lacks_memory x x.setup.costs.int) (g x (WordOr.Refused Fault.OutOfMemory))
-      (pick (is_object k v && no_slot x) (g x (WordOr.Refused Fault.Full)) (g (converted k v x) (WordOr.Word (dynamic k v x)))))
-  convert-is = ap (λ (e : After WordOr). and_then e g) (converts k v x h) ∙ convert-then (too_large k v) (is_object k v && lacks_memory x x.setup.costs.int) (is_object k v && no_slot x) (converted k v x) (dynamic k v x)
+      ≡ pick (too_large k v) (g x (Err Fault.ArithOverflow)) (pick (is_object k v && lacks_memory x x.setup.costs.int) (g x (Err Fault.OutOfMemory))
+      (pick (is_object k v && no_slot x) (g x (Err Fault.Full)) (g (converted k v x) (Ok (dynamic k v x)))))
+  convert-is = ap (λ (e : After (Result ℕ Fault)). and_then e g) (converts k v x h) ∙ convert-then (too_large k v) (is_object k v && lacks_memory x x.setup.costs.int) (is_object k v && no_slot x) (converted k v x) (dynamic k v x)
 
 -- ---- returns
 
@@ -98,8 +96,8 @@ returned-is (a ∷ chain) v w =
 stepped-is : (w : World) → next_pc w ≡ stepped w
 stepped-is w = ap (λ fs. with_frames fs w) (onward-is w.frames)
 
-resumed : (w w' : World) → w ≡ w' → Machine.resume_in w Fault.None ≡ after (stepped w') Answer.Resume
-resumed w w' e = pick_true _ _ ∙ ap (λ x. after x Answer.Resume) (ap (λ x. next_pc x) e ∙ stepped-is w')
+resumed : (w w' : World) → w ≡ w' → Machine.resume_in w (Ok tt) ≡ after (stepped w') Answer.Resume
+resumed w w' e = ap (λ x. after x Answer.Resume) (ap (λ x. next_pc x) e ∙ stepped-is w')
 
 result-is : (k : ResultKind) (v : ℕ) → Machine.result_of k v ≡ result k v
 result-is ResultKind.None v = refl
@@ -107,22 +105,19 @@ result-is ResultKind.Dyn v = refl
 result-is ResultKind.I64 v = refl
 result-is ResultKind.U64 v = refl
 
-written_is : (r : ℕ) (o : Opt) (w : World) → Machine.write_result r o w ≡ written r o w
-written_is r Opt.None w = refl
-written_is r (Opt.Some v) w = put_is r v w
+written_is : (r : ℕ) (o : Option ℕ) (w : World) → Machine.write_result r o w ≡ written r o w
+written_is r None w = refl
+written_is r (Some v) w = put_is r v w
 
-pub or-nil-is : (o : Opt) → Machine.or_nil o ≡ or_nil o
-or-nil-is Opt.None = refl
-or-nil-is (Opt.Some v) = refl
-
-refused-in : (w : World) (f : Fault) → Machine.is_ok f ≡ false → Machine.resume_in w f ≡ after w (Answer.Refused f)
-refused-in w f h = ap (λ b. pick b (after (next_pc w) Answer.Resume) (after w (Answer.Refused f))) h ∙ pick-false (after (next_pc w) Answer.Resume) (after w (Answer.Refused f))
+pub or-nil-is : (o : Option ℕ) → Machine.or_nil o ≡ or_nil o
+or-nil-is None = refl
+or-nil-is (Some v) = refl
 
 through-dyn : (r : ℕ) (k : ResultKind) (v : ℕ) (x : World) → v < 2 ^ 64 →
     and_then (to_dyn k v x) (λ w m. and_then (Machine.write_made r w m) Machine.resume_in) ≡ leads_from (conversion k v x) (accept true Answer.Resume (stepped (put r (dynamic k v x) (converted k v x))))
 through-dyn r k v x h =
     convert-is (λ w m. and_then (Machine.write_made r w m) Machine.resume_in) k v x h
-    ∙ (λ i. pick (too_large k v) (refused-in x Fault.ArithOverflow refl i) (pick (is_object k v && lacks_memory x x.setup.costs.int) (refused-in x Fault.OutOfMemory refl i) (pick (is_object k v && no_slot x) (refused-in x Fault.Full refl i)
+    ∙ (λ i. pick (too_large k v) (after x (Answer.Refused Fault.ArithOverflow)) (pick (is_object k v && lacks_memory x x.setup.costs.int) (after x (Answer.Refused Fault.OutOfMemory)) (pick (is_object k v && no_slot x) (after x (Answer.Refused Fault.Full))
     (resumed (put_reg r (dynamic k v x) (converted k v x)) (put r (dynamic k v x) (converted k v x)) (put_is r (dynamic k v x) (converted k v x)) i))))
 
 same-chain : (k : ResultKind) (v : ℕ) (w : World) → (converted k v w).chain ≡ w.chain

@@ -6,7 +6,7 @@ use mathlib.Core.List.{List, [], ◌∷◌, ◌++◌}
 use lib.ListN.{set}
 use lib.Dec.{eqb}
 use Rattle.heap.specs.Table.{Slot, slot}
-use Rattle.heap.specs.declared.value.Opt.{Opt}
+use Rattle.std.specs.Prelude.{Option, Some}
 use Rattle.heap.specs.declared.heap.ResultKind.{ResultKind}
 use Rattle.heap.specs.declared.object.CoroState.{CoroState}
 use Rattle.model.specs.Lists.{each}
@@ -60,7 +60,7 @@ push-filled : (xs : List (Slot Object)) (y : Slot Object) → is_nothing y.objec
 push-filled [] y e h = both_true (not (is_nothing y.object)) true (ap not e) refl
 push-filled (x ∷ xs) y e h = both_true (not (is_nothing x.object)) _ (and_left (not (is_nothing x.object)) (filled xs) h) (push-filled xs y e (and_right (not (is_nothing x.object)) (filled xs) h))
 
-iterates : (o : Object) (f : Bool → Bool) (g : Opt → Opt) → eqb (kind o) 3 ≡ true → is_nothing (iterator f g o) ≡ false
+iterates : (o : Object) (f : Bool → Bool) (g : Option ℕ → Option ℕ) → eqb (kind o) 3 ≡ true → is_nothing (iterator f g o) ≡ false
 iterates Object.Empty f g h = absurd (false≢true h)
 iterates (Object.Func n) f g h = refl
 iterates (Object.Int n) f g h = refl
@@ -75,7 +75,7 @@ module _ (u : World) where
   pub adds : (o : Object) (bytes : ℕ) (x : World) → is_nothing o ≡ false → Kept u x → Kept u (stored o bytes x)
   adds o bytes x e k = record { queue = k.queue; stays = record { setup = k.stays.setup; full = λ h. push-filled x.slots (slot 0 o) e (k.stays.full h) } }
 
-  pub marks : (v : ℕ) (f : Bool → Bool) (g : Opt → Opt) (x : World) → Kept u x → Kept u (marked v f g x)
+  pub marks : (v : ℕ) (f : Bool → Bool) (g : Option ℕ → Option ℕ) (x : World) → Kept u x → Kept u (marked v f g x)
   marks v f g x k = by-test (λ y. Kept u y) (eqb (kind (found x v)) 3) (λ e. puts v (iterator f g (found x v)) x (iterates (found x v) f g e) k) (λ _. k)
 
   pub enters-kept : (r : Rest) (v : ℕ) (d : Driver) (x : World) → Kept u x → Kept u (entered_as r v d x)
@@ -89,7 +89,7 @@ module _ (u : World) where
 
   pub delivers-kept : (d : Driver) (payload key : ℕ) (s : Stop) (x : World) → Kept u x → Kept u (delivered d payload key s x)
   delivers-kept (Driver.Resume dst) payload key s x k = k
-  delivers-kept (Driver.Iter has val iter) payload key s x k = marks iter (λ d. d) (λ _. Opt.Some key) x k
+  delivers-kept (Driver.Iter has val iter) payload key s x k = marks iter (λ d. d) (λ _. Some key) x k
   delivers-kept Driver.Host payload key s x k = k
   delivers-kept Driver.Finalize payload key s x k = k
 

@@ -11,7 +11,7 @@ use Rattle.heap.specs.Word.{slot_of, tag_of, class_of}
 use Rattle.heap.specs.Table.{Slot, slot, names, get_in, put_object}
 use Rattle.heap.specs.declared.value.Obj.{Obj}
 use Rattle.heap.specs.declared.value.Class.{Class}
-use Rattle.heap.specs.declared.heap.Place.{Place}
+use Rattle.std.specs.Prelude.{Option, Some, None}
 use Rattle.heap.specs.declared.object.CoroState.{CoroState}
 use Rattle.model.specs.Lists.{is_nil, each}
 use Rattle.model.specs.State.{is_resumable}
@@ -59,11 +59,11 @@ module _ (xs : List (Slot Object)) (k k' : Core) (r r' : Rest) where
       again true false c h = h
       again false b c h = h
 
-  by_names : (v : ℕ) (b : Bool) → names Object.Empty is_filled xs v ≡ b → as_coro (object_at xs (pick b (Place.At (slot_of v)) Place.Nothing)) ≡ Is k r →
-      as_coro (object_at (stored v) (pick (names Object.Empty is_filled (stored v) v) (Place.At (slot_of v)) Place.Nothing)) ≡ Is k' r'
+  by_names : (v : ℕ) (b : Bool) → names Object.Empty is_filled xs v ≡ b → as_coro (object_at xs (pick b (Some (slot_of v)) None)) ≡ Is k r →
+      as_coro (object_at (stored v) (pick (names Object.Empty is_filled (stored v) v) (Some (slot_of v)) None)) ≡ Is k' r'
   unfolding pick
   by_names v true e h =
-      ap (λ b. as_coro (object_at (stored v) (pick b (Place.At (slot_of v)) Place.Nothing))) (still-names v e) ∙ ap (λ (s : Slot Object). as_coro s.object) (found-there v e)
+      ap (λ b. as_coro (object_at (stored v) (pick b (Some (slot_of v)) None))) (still-names v e) ∙ ap (λ (s : Slot Object). as_coro s.object) (found-there v e)
   by_names v false e h = cc
 
   by-class : (v : ℕ) (c : Class) → ((o : Obj) → c ≡ Class.Ref o → o.0 ≡ v) → as_coro (object_at xs (get_in Object.Empty is_filled xs c)) ≡ Is k r →
@@ -118,12 +118,12 @@ saved-by s k r h e =
     and_left (body_last k.frames && frames_over s (length k.regs) k.frames) (waits k)
     (sym (pick_true _ (is_nil k.frames && is_nil k.regs)) ∙ (sym (ap (λ b. pick b (body_last k.frames && frames_over s (length k.regs) k.frames && waits k) (is_nil k.frames && is_nil k.regs)) e) ∙ h))
 
-saved-at : (w : World) (p : Place) (k : Core) (r : Rest) → each (λ x. saved_in w.setup (as_coro x.object)) w.slots ≡ true → as_coro (object_at w.slots p) ≡ Is k r → saved_in w.setup (Is k r) ≡ true
-saved-at w Place.Nothing k r h e = absurd (none e)
+saved-at : (w : World) (p : Option ℕ) (k : Core) (r : Rest) → each (λ x. saved_in w.setup (as_coro x.object)) w.slots ≡ true → as_coro (object_at w.slots p) ≡ Is k r → saved_in w.setup (Is k r) ≡ true
+saved-at w None k r h e = absurd (none e)
   where
     none : Absent ≡ Is k r → ⊥
     none e = true≢false (cc)
-saved-at w (Place.At i) k r h e = subst (λ x. saved_in w.setup x ≡ true) e (each_at (λ x. saved_in w.setup (as_coro x.object)) w.slots i h refl)
+saved-at w (Some i) k r h e = subst (λ x. saved_in w.setup x ≡ true) e (each_at (λ x. saved_in w.setup (as_coro x.object)) w.slots i h refl)
 
 -- its frames end in its body, and lie over its words
 pub has_body : (w : World) (v : ℕ) (k : Core) (r : Rest) → sound w ≡ true → coro w v ≡ Is k r → is_resumable k.state ≡ true → body_last k.frames && frames_over w.setup (length k.regs) k.frames ≡ true

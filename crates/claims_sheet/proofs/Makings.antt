@@ -9,7 +9,7 @@ use lib.Dec.{eqb, leb}
 use Rattle.lists.specs.Pick.{pick, pick_true, pick-false}
 use Rattle.heap.specs.Table.{Slot}
 use Rattle.heap.specs.declared.fault.Fault.{Fault}
-use Rattle.heap.specs.declared.value.Opt.{Opt}
+use Rattle.std.specs.Prelude.{Option, Result, Some, None, Ok, Err}
 use Rattle.heap.specs.declared.object.CoroState.{CoroState}
 use Rattle.model.specs.Lists.{among}
 use Rattle.model.specs.State.{is_finished}
@@ -25,9 +25,7 @@ use Rattle.model.specs.Machine.{push_frame}
 use Rattle.model.specs.Exec as Exec
 use Rattle.model.specs.declared.machine.Cont.{Cont}
 use Rattle.model.specs.declared.machine.Charge.{Charge}
-use Rattle.model.specs.declared.coro.WordOr.{WordOr}
 use Rattle.model.specs.declared.exec.Step.{Step}
-use Rattle.model.specs.declared.call.OptPc.{OptPc}
 use Rattle.claims_sheet.specs.Lines.{leads_from, leads}
 use Rattle.claims_sheet.specs.Words.{word, arguments, found, kind, is_nothing, dead, function_of, is_in, lacks_memory, no_slot}
 use Rattle.claims_sheet.specs.Moves.{pc_stored}
@@ -99,10 +97,10 @@ no-row w =
 
 -- ---- creation
 
-module _ {B : Type 0} (g : World → WordOr → After B) where
+module _ {B : Type 0} (g : World → Result ℕ Fault → After B) where
   created-by : (a s r b : Bool) (u v m : World) (x : ℕ) →
-      and_then (pick a (refuse u Fault.OutOfMemory) (pick (s || r) (refuse u Fault.Full) (pick b (refuse v Fault.OutOfMemory) (pick s (refuse v Fault.Full) (after m (WordOr.Word x)))))) g
-      ≡ pick a (g u (WordOr.Refused Fault.OutOfMemory)) (pick (s || r) (g u (WordOr.Refused Fault.Full)) (pick b (g v (WordOr.Refused Fault.OutOfMemory)) (g m (WordOr.Word x))))
+      and_then (pick a (refuse u Fault.OutOfMemory) (pick (s || r) (refuse u Fault.Full) (pick b (refuse v Fault.OutOfMemory) (pick s (refuse v Fault.Full) (after m (Ok x)))))) g
+      ≡ pick a (g u (Err Fault.OutOfMemory)) (pick (s || r) (g u (Err Fault.Full)) (pick b (g v (Err Fault.OutOfMemory)) (g m (Ok x))))
   unfolding pick
   created-by true s r b u v m x = refl
   created-by false true r b u v m x = refl
@@ -113,8 +111,8 @@ module _ {B : Type 0} (g : World → WordOr → After B) where
   -- the tests of a creation, in order
   pub create-is : (f closure : ℕ) (args : List ℕ) (u : World) →
       and_then (Coros.coro_create f closure args u) g
-      ≡ pick (lacks_memory u (fit_bytes u f)) (g u (WordOr.Refused Fault.OutOfMemory)) (pick (no_slot u || no_row u) (g u (WordOr.Refused Fault.Full))
-      (pick (lacks_memory u (bytes u f)) (g (numbered u) (WordOr.Refused Fault.OutOfMemory)) (g (made f closure args u) (WordOr.Word (new_word u)))))
+      ≡ pick (lacks_memory u (fit_bytes u f)) (g u (Err Fault.OutOfMemory)) (pick (no_slot u || no_row u) (g u (Err Fault.Full))
+      (pick (lacks_memory u (bytes u f)) (g (numbered u) (Err Fault.OutOfMemory)) (g (made f closure args u) (Ok (new_word u)))))
   unfolding Coros.coro_create alloc
   create-is f closure args u =
       ap (λ row. tried (no_slot u || rows_full u) (object row)) (lowest-is u.setup.limits.rows 0 u.slots)
@@ -144,12 +142,12 @@ coro-new-is dst f argc u =
 
 -- ---- of the function that a register holds
 
-module _ {B : Type 0} (g : World → WordOr → After B) (v argc : ℕ) (args : List ℕ) (u : World) where
-  abbrev found-function : ℕ → After WordOr
+module _ {B : Type 0} (g : World → Result ℕ Fault → After B) (v argc : ℕ) (args : List ℕ) (u : World) where
+  abbrev found-function : ℕ → After (Result ℕ Fault)
   found-function f =
       pick (not (is_function u f)) (refuse u Fault.TypeError) (pick (not (eqb (function u f).params argc)) (refuse u Fault.TypeError) (Coros.coro_create f v args u))
 
-  called-as : Object → Fault → After WordOr
+  called-as : Object → Fault → After (Result ℕ Fault)
   called-as Object.Empty e = refuse u e
   called-as (Object.Func f) e = found-function f
   called-as (Object.Int n) e = refuse u e
@@ -159,11 +157,11 @@ module _ {B : Type 0} (g : World → WordOr → After B) (v argc : ℕ) (args : 
 
   abbrev then-create : ℕ → After B
   then-create f =
-      pick (not (is_function u f)) (g u (WordOr.Refused Fault.TypeError)) (pick (not (eqb (function u f).params argc)) (g u (WordOr.Refused Fault.TypeError)) (and_then (Coros.coro_create f v args u) g))
+      pick (not (is_function u f)) (g u (Err Fault.TypeError)) (pick (not (eqb (function u f).params argc)) (g u (Err Fault.TypeError)) (and_then (Coros.coro_create f v args u) g))
 
   then_found : (a b : Bool) (f : ℕ) →
       and_then (pick a (refuse u Fault.TypeError) (pick b (refuse u Fault.TypeError) (Coros.coro_create f v args u))) g
-      ≡ pick a (g u (WordOr.Refused Fault.TypeError)) (pick b (g u (WordOr.Refused Fault.TypeError)) (and_then (Coros.coro_create f v args u) g))
+      ≡ pick a (g u (Err Fault.TypeError)) (pick b (g u (Err Fault.TypeError)) (and_then (Coros.coro_create f v args u) g))
   unfolding pick
   then_found true b f = refl
   then_found false true f = refl
@@ -171,7 +169,7 @@ module _ {B : Type 0} (g : World → WordOr → After B) (v argc : ℕ) (args : 
 
   by-function : (o : Object) (b : Bool) → (b ≡ true → is_nothing o ≡ true) →
       and_then (called-as o (pick b Fault.NullReference Fault.TypeError)) g
-      ≡ pick b (g u (WordOr.Refused Fault.NullReference)) (pick (not (eqb (kind o) 1)) (g u (WordOr.Refused Fault.TypeError)) (then-create (function_of o)))
+      ≡ pick b (g u (Err Fault.NullReference)) (pick (not (eqb (kind o) 1)) (g u (Err Fault.TypeError)) (then-create (function_of o)))
   unfolding pick called-as
   by-function Object.Empty true h = refl
   by-function Object.Empty false h = refl
@@ -186,7 +184,7 @@ module _ {B : Type 0} (g : World → WordOr → After B) (v argc : ℕ) (args : 
   by-function (Object.Coro k r) true h = refl
   by-function (Object.Coro k r) false h = refl
 
-module _ {B : Type 0} (g : World → WordOr → After B) (dst v argc : ℕ) (u : World) where
+module _ {B : Type 0} (g : World → Result ℕ Fault → After B) (dst v argc : ℕ) (u : World) where
   indirect-as : (o : Object) → Exec.indirect_to o v dst argc u ≡ called-as g v argc (Exec.window dst argc u) u o (not_a u v)
   unfolding called-as
   indirect-as Object.Empty = refl
@@ -200,12 +198,12 @@ module _ {B : Type 0} (g : World → WordOr → After B) (dst v argc : ℕ) (u :
   f₀ = callee u v
 
   pub indirect-is : and_then (Exec.indirect_to (object u v) v dst argc u) g
-      ≡ pick (dead u v) (g u (WordOr.Refused Fault.NullReference)) (pick (not (eqb (kind (found u v)) 1)) (g u (WordOr.Refused Fault.TypeError))
-      (pick (not (is_function u f₀)) (g u (WordOr.Refused Fault.TypeError)) (pick (not (eqb (function u f₀).params argc)) (g u (WordOr.Refused Fault.TypeError))
-      (pick (lacks_memory u (fit_bytes u f₀)) (g u (WordOr.Refused Fault.OutOfMemory)) (pick (no_slot u || no_row u) (g u (WordOr.Refused Fault.Full))
-      (pick (lacks_memory u (bytes u f₀)) (g (numbered u) (WordOr.Refused Fault.OutOfMemory)) (g (made f₀ v (arguments u dst argc) u) (WordOr.Word (new_word u)))))))))
+      ≡ pick (dead u v) (g u (Err Fault.NullReference)) (pick (not (eqb (kind (found u v)) 1)) (g u (Err Fault.TypeError))
+      (pick (not (is_function u f₀)) (g u (Err Fault.TypeError)) (pick (not (eqb (function u f₀).params argc)) (g u (Err Fault.TypeError))
+      (pick (lacks_memory u (fit_bytes u f₀)) (g u (Err Fault.OutOfMemory)) (pick (no_slot u || no_row u) (g u (Err Fault.Full))
+      (pick (lacks_memory u (bytes u f₀)) (g (numbered u) (Err Fault.OutOfMemory)) (g (made f₀ v (arguments u dst argc) u) (Ok (new_word u)))))))))
   indirect-is =
-      ap (λ (x : After WordOr). and_then x g) (indirect-as (object u v))
+      ap (λ (x : After (Result ℕ Fault)). and_then x g) (indirect-as (object u v))
       ∙ (ap (λ o. and_then (called-as g v argc (Exec.window dst argc u) u o (not_a u v)) g) (object-found u v)
       ∙ (ap (λ e. and_then (called-as g v argc (Exec.window dst argc u) u (found u v) e) g) (not_a_lem u v)
       ∙ (by-function g v argc (Exec.window dst argc u) u (found u v) (dead u v) (and_left (is_nothing (found u v)) _)
@@ -229,13 +227,13 @@ paid-by true true bk sp x = refl
 paid-by true false bk sp x = refl
 paid-by false b bk sp x = refl
 
-armed : (rd : Bool) (n : ℕ) (w : World) → with_fuel (pick rd (record { fuel = 0; bank = Opt.Some n; ready = rd }) (record { fuel = n; bank = Opt.None; ready = rd })) w ≡ pick rd (fuelled 0 (Opt.Some n) rd w) (fuelled n Opt.None rd w)
+armed : (rd : Bool) (n : ℕ) (w : World) → with_fuel (pick rd (record { fuel = 0; bank = Some n; ready = rd }) (record { fuel = n; bank = None; ready = rd })) w ≡ pick rd (fuelled 0 (Some n) rd w) (fuelled n None rd w)
 unfolding pick
 armed true n w = refl
 armed false n w = refl
 
 -- a charge without a pc
-pub paid-is : (w : World) → charge OptPc.None w ≡ pick (used_up w) (after (bank_back w) Charge.Spent) (after (paid w) (Charge.Done 0))
+pub paid-is : (w : World) → charge None w ≡ pick (used_up w) (after (bank_back w) Charge.Spent) (after (paid w) (Charge.Done 0))
 unfolding charge charge_slow
 paid-is w =
     ap (λ x. pick (eqb w.fuel.fuel 0) (pick (eqb x.fuel.fuel 0) (after x Charge.Spent) (after (arm_close (spend x)) (Charge.Done 0))) (after (spend w) (Charge.Done 0))) (unbank-is w)
@@ -250,14 +248,14 @@ pushes hook pc dst c y =
     ∙ then_one (Exec.hooked y c) (no_room hook (pc_stored pc y)) _ _
 
 hooks : (hook pc dst c : ℕ) (m : World) →
-    and_then (charge OptPc.None m) (Exec.call_hook hook pc dst c)
+    and_then (charge None m) (Exec.call_hook hook pc dst c)
     ≡ pick (used_up m) (after (bank_back m) (Step.Fault Fault.OutOfFuel)) (pick (no_room hook (pc_stored pc (paid m))) (after (paid m) (Step.Fault Fault.StackOverflow)) (after (called hook dst c (pc_stored pc (paid m))) Step.Frame))
 hooks hook pc dst c m =
     ap (λ (x : After Charge). and_then x (Exec.call_hook hook pc dst c)) (paid-is m)
     ∙ (then_one (Exec.call_hook hook pc dst c) (used_up m) _ _ ∙ below _ _ (pushes hook pc dst c (paid m)))
 
 spawn-some : (hook pc dst c argc : ℕ) (u : World) →
-    Exec.spawn_with (Opt.Some hook) pc dst c argc u ≡ leads_from (drop 1 (Table.spawn_with (Opt.Some hook) pc dst c argc u).tests) (Table.spawn_with (Opt.Some hook) pc dst c argc u).done
+    Exec.spawn_with (Some hook) pc dst c argc u ≡ leads_from (drop 1 (Table.spawn_with (Some hook) pc dst c argc u).tests) (Table.spawn_with (Some hook) pc dst c argc u).done
 unfolding Exec.indirect
 spawn-some hook pc dst c argc u =
     ap (λ v. and_then (Exec.indirect_to (object u v) v dst argc u) (Exec.spawn_made hook pc dst)) (word-is u c)
@@ -267,9 +265,9 @@ spawn-some hook pc dst c argc u =
     m : World
     m = made (callee u (word u c)) (word u c) (arguments u dst argc) u
 
-spawn-by : (hook : Opt) (pc dst c argc : ℕ) (u : World) → Exec.spawn_with hook pc dst c argc u ≡ leads (Table.spawn_with hook pc dst c argc u)
-spawn-by Opt.None pc dst c argc u = sym (pick_true _ _)
-spawn-by (Opt.Some hook) pc dst c argc u = spawn-some hook pc dst c argc u ∙ sym (pick-false _ _)
+spawn-by : (hook : Option ℕ) (pc dst c argc : ℕ) (u : World) → Exec.spawn_with hook pc dst c argc u ≡ leads (Table.spawn_with hook pc dst c argc u)
+spawn-by None pc dst c argc u = sym (pick_true _ _)
+spawn-by (Some hook) pc dst c argc u = spawn-some hook pc dst c argc u ∙ sym (pick-false _ _)
 
 pub spawn-is : (pc dst c argc : ℕ) (u : World) → Exec.spawn pc dst c argc u ≡ leads (Table.spawn pc dst c argc u)
 unfolding Exec.spawn

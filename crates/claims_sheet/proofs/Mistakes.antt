@@ -13,7 +13,7 @@ use Rattle.lists.specs.Pick.{pick}
 use Rattle.heap.specs.Coding.{in_range}
 use Rattle.heap.specs.Table.{Slot, slot}
 use Rattle.heap.specs.declared.fault.Fault.{Fault}
-use Rattle.heap.specs.declared.value.Opt.{Opt}
+use Rattle.std.specs.Prelude.{Some, None}
 use Rattle.heap.specs.declared.object.CoroState.{CoroState}
 use Rattle.model.specs.Lists.{is_nil, each}
 use Rattle.model.specs.Program.{between, limits_ok, costs_ok, function_ok, hook_ok, setup_ok}
@@ -74,7 +74,7 @@ same : (pc : ℕ) (w : World) → Same pc w (at pc w)
 unfolding pick
 same pc w = go (not (eqb w.fuel.fuel 0)) (not w.fuel.ready)
   where
-    go : (a b : Bool) → Same pc w (pc_stored pc (pick a (fuelled (w.fuel.fuel - 1) w.fuel.bank w.fuel.ready w) (pick b (fuelled (reserve w - 1) Opt.None false w) (fuelled (reserve w - 1) Opt.None false (with_finalizing false (with_finalize [] (pc_stored pc w)))))))
+    go : (a b : Bool) → Same pc w (pc_stored pc (pick a (fuelled (w.fuel.fuel - 1) w.fuel.bank w.fuel.ready w) (pick b (fuelled (reserve w - 1) None false w) (fuelled (reserve w - 1) None false (with_finalizing false (with_finalize [] (pc_stored pc w)))))))
     go true b = record { setup = refl; stack = refl; frames = refl; chain = refl; slots = refl; used = refl }
     go false true = record { setup = refl; stack = refl; frames = refl; chain = refl; slots = refl; used = refl }
     go false false = record { setup = refl; stack = refl; frames = once_more pc w.frames; chain = refl; slots = refl; used = refl }
@@ -288,7 +288,7 @@ stepped-nil (f ∷ fs) = refl
 
 last_one : (r iter payload key : ℕ) (s : Stop) (u : World) → LastOne r payload (delivered (Driver.Iter r r iter) payload key s u)
 last_one r iter payload key s u =
-    both (λ (x : World). LastOne r payload (sent r 1 (put r payload x))) (eqb (kind (found u iter)) 3) (wrote (replaced iter (iterator (λ d. d) (λ k. Opt.Some key) (found u iter)) u)) (wrote u)
+    both (λ (x : World). LastOne r payload (sent r 1 (put r payload x))) (eqb (kind (found u iter)) 3) (wrote (replaced iter (iterator (λ d. d) (λ k. Some key) (found u iter)) u)) (wrote u)
   where
     wrote : (x : World) → LastOne r payload (sent r 1 (put r payload x))
     wrote x h = (x.stack, twice x.frames r payload x.stack (sym (stepped-nil x.frames) ∙ h))

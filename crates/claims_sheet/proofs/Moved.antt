@@ -7,7 +7,7 @@ use lib.ListN.{length}
 use lib.Dec.{eqb}
 use Rattle.lists.specs.Pick.{pick}
 use Rattle.heap.specs.declared.fault.Fault.{Fault}
-use Rattle.heap.specs.declared.value.Opt.{Opt}
+use Rattle.std.specs.Prelude.{Option}
 use Rattle.heap.specs.declared.object.CoroState.{CoroState}
 use Rattle.model.specs.Object.{Core, Rest, Object, Coroutine, Absent, Is, as_coro}
 use Rattle.model.specs.World.{World, After, and_then, with_stack, with_frames}
@@ -132,7 +132,7 @@ pub closing-is : (signal v : ℕ) (d : Driver) (w : World) → is_coroutine (fou
 closing-is signal v d w h = entered-then v d (core_of (found w v)) (rest_of (found w v)) (close signal) w (coro-is w v ∙ coroutine (found w v) h) refl
 
 -- an iterator changed, where the word finds one
-marked-as : (o : Object) (v : ℕ) (f : Bool → Bool) (g : Opt → Opt) (w : World) → change_iter_in o v f g w ≡ pick (eqb (kind o) 3) (replaced v (iterator f g o) w) w
+marked-as : (o : Object) (v : ℕ) (f : Bool → Bool) (g : Option ℕ → Option ℕ) (w : World) → change_iter_in o v f g w ≡ pick (eqb (kind o) 3) (replaced v (iterator f g o) w) w
 unfolding pick
 marked-as Object.Empty v f g w = refl
 marked-as (Object.Func n) v f g w = refl
@@ -141,5 +141,5 @@ marked-as (Object.Iter s d k) v f g w = refl
 marked-as (Object.Error e n p x) v f g w = refl
 marked-as (Object.Coro k r) v f g w = refl
 
-pub marked-is : (v : ℕ) (f : Bool → Bool) (g : Opt → Opt) (w : World) → change_iter_in (object w v) v f g w ≡ marked v f g w
+pub marked-is : (v : ℕ) (f : Bool → Bool) (g : Option ℕ → Option ℕ) (w : World) → change_iter_in (object w v) v f g w ≡ marked v f g w
 marked-is v f g w = ap (λ o. change_iter_in o v f g w) (object-found w v) ∙ marked-as (found w v) v f g w

@@ -7,7 +7,8 @@ use lib.ListN.{length}
 use lib.Dec.{leb, ltb}
 use Rattle.lists.specs.Pick.{pick, pick_true, pick-false}
 use Rattle.heap.specs.declared.fault.Fault.{Fault}
-use Rattle.heap.specs.declared.value.Opt.{Opt}
+use Rattle.std.specs.Prelude.{Option, Some, None, Ok}
+use Rattle.model.specs.declared.coro.Entered.{Entered}
 use Rattle.heap.specs.declared.object.CoroState.{CoroState}
 use Rattle.model.specs.Object.{Object, Coroutine, Absent, Is, as_coro, with_task, with_finalized}
 use Rattle.model.specs.World.{World, After, after, and_then, with_stack, with_frames, with_chain, with_ready, with_finalize, with_outcome, with_fuel}
@@ -23,9 +24,6 @@ use Rattle.model.specs.declared.machine.Cont.{Cont}
 use Rattle.model.specs.declared.machine.Driver.{Driver}
 use Rattle.model.specs.declared.machine.Frame.{Frame}
 use Rattle.model.specs.declared.machine.Fuel.{Fuel}
-use Rattle.model.specs.declared.machine.Outcome.{Outcome}
-use Rattle.model.specs.declared.coro.WordOr.{WordOr}
-use Rattle.model.specs.declared.coro.Entered.{Entered}
 use Rattle.model.specs.declared.call.Answer.{Answer}
 use Rattle.claims_sheet.specs.Lines.{leads}
 use Rattle.claims_sheet.specs.Words.{lies, found, is_coroutine, core_of, rest_of, state, resumable, lacks_memory, no_slot}
@@ -48,10 +46,10 @@ lies-is w r = ap (λ b. ltb (b + r) (length w.stack)) (base-is w.frames)
 
 -- ---- spawn_task
 
-task-by : (b b' : Bool) (v : ℕ) (x w : World) → b ≡ b' → and_then (pick b (after x (WordOr.Word v)) (after w (WordOr.Word v))) Added.answer_made ≡ after (pick b' x w) (Answer.Word v)
+task-by : (b b' : Bool) (v : ℕ) (x w : World) → b ≡ b' → and_then (pick b (after x (Ok v)) (after w (Ok v))) Added.answer_made ≡ after (pick b' x w) (Answer.Word v)
 unfolding pick
-task-by b true v x w e = ap (λ t. and_then (pick t (after x (WordOr.Word v)) (after w (WordOr.Word v))) Added.answer_made) e
-task-by b false v x w e = ap (λ t. and_then (pick t (after x (WordOr.Word v)) (after w (WordOr.Word v))) Added.answer_made) e
+task-by b true v x w e = ap (λ t. and_then (pick t (after x (Ok v)) (after w (Ok v))) Added.answer_made) e
+task-by b false v x w e = ap (λ t. and_then (pick t (after x (Ok v)) (after w (Ok v))) Added.answer_made) e
 
 spawn-by : (o : Object) (v : ℕ) (w : World) →
     and_then (join_ready (as_coro o) v w) Added.answer_made
@@ -74,10 +72,10 @@ pub host-call-is : (f : ℕ) (w : World) → on_host (is_function w f) (Added.ho
 unfolding on_host Added.host_call push_frame
 host-call-is f w = below _ _ (below _ _ (then_one (Added.pushed_or w) (no_room f w) _ _))
 
-arrives : (s d : ℕ) (w : World) (b b' : Bool) → b ≡ b' → Added.host_arrive s w (pick b Entered.Fresh (Entered.Suspended d)) ≡ after (pick b' w (sent d s w)) Answer.Accepted
+arrives : (s d : ℕ) (w : World) (b b' : Bool) → b ≡ b' → Added.host_arrive s w (pick b (Ok Entered.Fresh) (Ok (Entered.Suspended d))) ≡ after (pick b' w (sent d s w)) Answer.Accepted
 unfolding pick
-arrives s d w b true e = ap (λ t. Added.host_arrive s w (pick t Entered.Fresh (Entered.Suspended d))) e
-arrives s d w b false e = ap (λ t. Added.host_arrive s w (pick t Entered.Fresh (Entered.Suspended d))) e ∙ ap (λ x. after x Answer.Accepted) (sent_is d s w)
+arrives s d w b true e = ap (λ t. Added.host_arrive s w (pick t (Ok Entered.Fresh) (Ok (Entered.Suspended d)))) e
+arrives s d w b false e = ap (λ t. Added.host_arrive s w (pick t (Ok Entered.Fresh) (Ok (Entered.Suspended d)))) e ∙ ap (λ x. after x Answer.Accepted) (sent_is d s w)
 
 pub host-entry-is : (v s : ℕ) (w : World) → Saved w → on_host true (Added.host_entry v s) w ≡ leads (Table.host_entry v s w)
 unfolding on_host Added.host_entry
@@ -152,13 +150,13 @@ hand-over-is v w =
 
 -- ---- grant, stop run, look
 
-reserve-is : (b : Opt) (f : Fuel) → Added.reserve b f ≡ amount b f.fuel
-reserve-is Opt.None f = refl
-reserve-is (Opt.Some n) f = refl
+reserve-is : (b : Option ℕ) (f : Fuel) → Added.reserve b f ≡ amount b f.fuel
+reserve-is None f = refl
+reserve-is (Some n) f = refl
 
-refuel-is : (b : Opt) (n : ℕ) (w : World) → with_fuel (Added.refuel b n w.fuel) w ≡ granted b n w
-refuel-is Opt.None n w = refl
-refuel-is (Opt.Some m) n w = refl
+refuel-is : (b : Option ℕ) (n : ℕ) (w : World) → with_fuel (Added.refuel b n w.fuel) w ≡ granted b n w
+refuel-is None n w = refl
+refuel-is (Some m) n w = refl
 
 pub grant-is : (n : ℕ) (w : World) → Added.grant n w ≡ leads (Table.grant n w)
 unfolding Added.grant
@@ -173,8 +171,8 @@ stopped-is (a ∷ chain) w = stopped-is chain (Coros.finish_coroutine a.coro Cor
 pub stop-run-is : (w : World) → Added.stop_run w ≡ leads (Table.stop_run w)
 unfolding Added.stop_run Coros.abort_coros
 stop-run-is w =
-    ap (λ x. after (with_stack [] (with_frames [] (with_outcome Outcome.None (set_finalizing false (with_chain [] x))))) Answer.Accepted) (stopped-is w.chain w)
-    ∙ ap (λ x. after (with_stack [] (with_frames [] (with_outcome Outcome.None x))) Answer.Accepted) (cleaning-is false (with_chain [] (stopped w.chain w)))
+    ap (λ x. after (with_stack [] (with_frames [] (with_outcome None (set_finalizing false (with_chain [] x))))) Answer.Accepted) (stopped-is w.chain w)
+    ∙ ap (λ x. after (with_stack [] (with_frames [] (with_outcome None x))) Answer.Accepted) (cleaning-is false (with_chain [] (stopped w.chain w)))
 
 pub registers-is : (w : World) → Added.registers w ≡ registers w.frames w.stack
 unfolding Added.registers

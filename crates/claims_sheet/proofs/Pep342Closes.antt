@@ -24,7 +24,7 @@ use Rattle.model.specs.declared.program.Handler.{Handler}
 use Rattle.model.specs.declared.machine.Cont.{Cont}
 use Rattle.model.specs.declared.machine.Driver.{Driver}
 use Rattle.model.specs.declared.machine.Frame.{Frame}
-use Rattle.model.specs.declared.call.OptPc.{OptPc}
+use Rattle.std.specs.Prelude.{None}
 use Rattle.model.specs.declared.call.Op.{Op}
 use Rattle.model.specs.declared.call.Answer.{Answer}
 use Rattle.claims_sheet.specs.Lines.{Line, leads_from, line}
@@ -213,12 +213,12 @@ module _ (pc dst c src : ℕ) (w : World) (passes : Passes pc dst c src w) (is-s
     abbrev Ends : After Answer → Type 0
     Ends end = (x : Frame) (ys : List ℕ) → is_body x.cont ≡ true → is_nil (takers x I) ≡ true → x.base ≡ 0 → leads_from (search (up (length z.stack) x ∷ z.frames) e f p (stood x ys)) last ≡ end
 
-    raised-in : (s : typed (Op.Unwind (Fault.Throw e) OptPc.None) ≡ true) (end : After Answer) → each (λ f. is_nil (takers f z)) core.frames ≡ true → Ends end → (E : World) → I ≡ E → sound E ≡ true →
-        does E (operation (Op.Unwind (Fault.Throw e) OptPc.None) s) ≡ end
+    raised-in : (s : typed (Op.Unwind (Fault.Throw e) None) ≡ true) (end : After Answer) → each (λ f. is_nil (takers f z)) core.frames ≡ true → Ends end → (E : World) → I ≡ E → sound E ≡ true →
+        does E (operation (Op.Unwind (Fault.Throw e) None) s) ≡ end
     unfolding pick
     raised-in s end un ends E entry h =
-        subst (λ (b : World). sound b ≡ true → does b (operation (Op.Unwind (Fault.Throw e) OptPc.None) s) ≡ end) entry
-        (λ g. leads-to I _ ∙ (rises OptPc.None I (Fault.Throw e) (ap (λ b. b && true) g)
+        subst (λ (b : World). sound b ≡ true → does b (operation (Op.Unwind (Fault.Throw e) None) s) ≡ end) entry
+        (λ g. leads-to I _ ∙ (rises None I (Fault.Throw e) (ap (λ b. b && true) g)
         ∙ falls z.stack z.frames e f p last I end ends (length core.regs) core.frames core.regs (and_left (body_last core.frames) _ whole) bases un)) h
 
     abbrev inside : World

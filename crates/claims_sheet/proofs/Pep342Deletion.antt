@@ -4,7 +4,7 @@ use mathlib.Core.Path.{◌≡◌, refl, ap, ◌∙◌}
 use mathlib.Core.Bool.{Bool, true, false, not, ◌&&◌, ◌||◌}
 use mathlib.Core.List.{List, ◌∷◌}
 use lib.ListN.{get_or, drop}
-use Rattle.heap.specs.declared.value.Opt.{Opt}
+use Rattle.std.specs.Prelude.{None}
 use Rattle.model.specs.Lists.{is_nil}
 use Rattle.model.specs.World.{World, After, after, with_finalize, with_finalizing}
 use Rattle.model.specs.Sound.{sound}
@@ -35,7 +35,7 @@ module _ (w : World) (o : Operation) (pc : ℕ) (ok : Bool) (own : World → Lin
   z = pc_stored pc w
 
   abbrev closed : List ℕ → World
-  closed q = fuelled (reserve w) Opt.None false (with_finalizing true (entered_closing 0 (get_or q 0 0) Driver.Finalize (with_finalize (drop 1 q) z)))
+  closed q = fuelled (reserve w) None false (with_finalizing true (entered_closing 0 (get_or q 0 0) Driver.Finalize (with_finalize (drop 1 q) z)))
 
   cleans : sound w ≡ true → is_nil w.frames ≡ false → ok ≡ true → used_up w ≡ false → searches w ≡ true → queue_from z w.finalize ≡ c ∷ queue →
       does w o ≡ after (closed (c ∷ queue)) (Answer.Cleanup (taken z w.finalize))

@@ -8,7 +8,7 @@ use lib.ListN.{length, get_or, drop}
 use lib.Dec.{eqb, ltb}
 use Rattle.lists.specs.Pick.{pick}
 use Rattle.heap.specs.declared.object.CoroState.{CoroState}
-use Rattle.heap.specs.declared.value.Opt.{Opt}
+use Rattle.std.specs.Prelude.{Option, Some, None}
 use Rattle.model.specs.Lists.{is_nil, each, among, distinct}
 use Rattle.model.specs.Object.{Object, as_coro}
 use Rattle.model.specs.World.{World, After, after}
@@ -78,7 +78,7 @@ module _ (w : World) (pc : ℕ) (g : searches w ≡ true) where
   no-fuel : eqb w.fuel.fuel 0 ≡ true
   no-fuel = and_left (eqb w.fuel.fuel 0) _ g
 
-  emptied-is : charged pc w ≡ fuelled (reserve w - 1) Opt.None false (with_finalizing false (with_finalize [] (pc_stored pc w)))
+  emptied-is : charged pc w ≡ fuelled (reserve w - 1) None false (with_finalizing false (with_finalize [] (pc_stored pc w)))
   emptied-is = past (not (eqb w.fuel.fuel 0)) _ (ap not no-fuel) (past (not w.fuel.ready) _ (ap not (and_right (eqb w.fuel.fuel 0) _ g)) refl)
 
 module _ (w : World) (pc dst c : ℕ) (t : typed (Op.CoroCurrent pc dst) ≡ true) (q : w.finalize ≡ c ∷ []) (high : too_high (pc_stored pc w) c ≡ true) where
@@ -205,10 +205,10 @@ or-true true b h = refl
 or-true false b h = h
 
 -- a charge without a bank
-plainly : (n : ℕ) (b : Opt) (ready spare : Bool) → b ≡ Opt.None → eqb n 0 ≡ spare → (eqb n 0 && eqb (amount b n) 0 ≡ false) → spare ≡ false
-plainly n Opt.None ready true e f h = absurd (true≢false (sym (ap (λ x. x && x) f) ∙ h))
-plainly n Opt.None ready false e f h = refl
-plainly n (Opt.Some m) ready spare e f h = cc
+plainly : (n : ℕ) (b : Option ℕ) (ready spare : Bool) → b ≡ None → eqb n 0 ≡ spare → (eqb n 0 && eqb (amount b n) 0 ≡ false) → spare ≡ false
+plainly n None ready true e f h = absurd (true≢false (sym (ap (λ x. x && x) f) ∙ h))
+plainly n None ready false e f h = refl
+plainly n (Some m) ready spare e f h = cc
 
 pub missed : Missed
 missed =

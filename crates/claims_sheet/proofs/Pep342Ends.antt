@@ -9,14 +9,13 @@ use lib.Dec.{eqb}
 use Rattle.lists.specs.Pick.{pick}
 use Rattle.heap.specs.Fault.{number_of}
 use Rattle.heap.specs.declared.fault.Fault.{Fault}
-use Rattle.heap.specs.declared.value.Opt.{Opt}
+use Rattle.std.specs.Prelude.{Option, Some, None}
 use Rattle.model.specs.Lists.{is_nil, each}
 use Rattle.model.specs.World.{World, After, after}
 use Rattle.model.specs.Sound.{sound, fuel_ok, is_none}
 use Rattle.model.specs.Call.{typed}
 use Rattle.model.specs.declared.program.Handler.{Handler}
 use Rattle.model.specs.declared.machine.Frame.{Frame}
-use Rattle.model.specs.declared.call.OptPc.{OptPc}
 use Rattle.model.specs.declared.call.Op.{Op}
 use Rattle.model.specs.declared.call.Answer.{Answer}
 use Rattle.claims_sheet.specs.Lines.{Line, leads_from, leads, line}
@@ -83,7 +82,7 @@ climbs true false true x y z h = absurd (false≢true h)
 climbs true false false x y z h = refl
 climbs false l f x y z h = absurd (false≢true h)
 
-module _ (pc : OptPc) (w : World) where
+module _ (pc : Option ℕ) (w : World) where
   abbrev Rises : Fault → Type 0
   Rises e =
       raises e pc w ≡ true →
@@ -119,7 +118,7 @@ module _ (pc : OptPc) (w : World) where
 
 -- ---- where it ends
 
-module _ (e : Fault) (pc : OptPc) (w : World) (t : typed (Op.Unwind e pc) ≡ true) (above : List Frame) (x : Frame) (xs : List Frame) (u : World) (c : Comes e pc w above x xs u) where
+module _ (e : Fault) (pc : Option ℕ) (w : World) (t : typed (Op.Unwind e pc) ≡ true) (above : List Frame) (x : Frame) (xs : List Frame) (u : World) (c : Comes e pc w above x xs u) where
   abbrev value : ℕ
   value = thrown e pc w
 
@@ -172,16 +171,16 @@ less : (n : ℕ) → eqb n 0 ≡ false → n - 1 + 1 ≡ n
 less zero h = absurd (true≢false h)
 less (suc n) h = omega arith
 
-spares : (n : ℕ) (b : Opt) (w : World) (ready zero : Bool) → eqb n 0 ≡ zero → is_none b || zero ≡ true → zero && eqb (amount b n) 0 ≡ false →
-    amount (pick (not zero) b (pick ready (Opt.Some (amount b n - 1)) Opt.None)) (pick (not zero) (n - 1) (pick ready 0 (amount b n - 1))) + 1 ≡ amount b n
+spares : (n : ℕ) (b : Option ℕ) (w : World) (ready zero : Bool) → eqb n 0 ≡ zero → is_none b || zero ≡ true → zero && eqb (amount b n) 0 ≡ false →
+    amount (pick (not zero) b (pick ready (Some (amount b n - 1)) None)) (pick (not zero) (n - 1) (pick ready 0 (amount b n - 1))) + 1 ≡ amount b n
 unfolding pick
 spares n b w ready true e h k = go ready (less (amount b n) k)
   where
-    go : (r : Bool) → amount b n - 1 + 1 ≡ amount b n → amount (pick r (Opt.Some (amount b n - 1)) Opt.None) (pick r 0 (amount b n - 1)) + 1 ≡ amount b n
+    go : (r : Bool) → amount b n - 1 + 1 ≡ amount b n → amount (pick r (Some (amount b n - 1)) None) (pick r 0 (amount b n - 1)) + 1 ≡ amount b n
     go true l = l
     go false l = l
-spares n Opt.None w ready false e h k = less n e
-spares n (Opt.Some m) w ready false e h k = absurd (false≢true h)
+spares n None w ready false e h k = less n e
+spares n (Some m) w ready false e h k = absurd (false≢true h)
 
 unit : (w : World) → sound w ≡ true → used_up w ≡ false → reserve (paid w) + 1 ≡ reserve w
 unfolding fuel_ok pick
@@ -191,8 +190,8 @@ unit w h k = go (eqb w.fuel.fuel 0) w.fuel.ready ∙ spares w.fuel.fuel w.fuel.b
     m = reserve w - 1
 
     go : (zero ready : Bool) →
-        reserve (pick (not zero) (fuelled (w.fuel.fuel - 1) w.fuel.bank w.fuel.ready w) (pick ready (fuelled 0 (Opt.Some m) w.fuel.ready w) (fuelled m Opt.None w.fuel.ready w))) + 1
-        ≡ amount (pick (not zero) w.fuel.bank (pick ready (Opt.Some m) Opt.None)) (pick (not zero) (w.fuel.fuel - 1) (pick ready 0 m)) + 1
+        reserve (pick (not zero) (fuelled (w.fuel.fuel - 1) w.fuel.bank w.fuel.ready w) (pick ready (fuelled 0 (Some m) w.fuel.ready w) (fuelled m None w.fuel.ready w))) + 1
+        ≡ amount (pick (not zero) w.fuel.bank (pick ready (Some m) None)) (pick (not zero) (w.fuel.fuel - 1) (pick ready 0 m)) + 1
     go true true = refl
     go true false = refl
     go false ready = refl

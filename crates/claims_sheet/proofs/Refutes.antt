@@ -12,7 +12,7 @@ use Rattle.lists.specs.Pick.{pick}
 use Rattle.heap.specs.Coding.{in_range}
 use Rattle.heap.specs.Table.{Slot, slot}
 use Rattle.heap.specs.declared.fault.Fault.{Fault}
-use Rattle.heap.specs.declared.value.Opt.{Opt}
+use Rattle.std.specs.Prelude.{Some, None}
 use Rattle.model.specs.Program.{Setup, setup_ok}
 use Rattle.model.specs.Lists.{is_nil, among}
 use Rattle.model.specs.Sound.{is_none, sound}
@@ -27,7 +27,6 @@ use Rattle.model.proofs.ClosingList.{allowed}
 use Rattle.model.specs.declared.exec.Step.{Step}
 use Rattle.model.specs.declared.machine.Active.{Active}
 use Rattle.model.specs.declared.machine.Frame.{Frame}
-use Rattle.model.specs.declared.machine.Outcome.{Outcome}
 use Rattle.model.specs.declared.machine.Stop.{Stop}
 use Rattle.model.specs.declared.call.Op.{Op}
 use Rattle.model.specs.declared.call.Answer.{Answer}
@@ -294,8 +293,8 @@ sees-nothing k = differ (ap (λ (xs : List ℕ). length xs) (k.sees-nothing new 
 left : (f : World → World) → Keeps (leaving f) → Fresh usual (f (fresh usual))
 left f k = k.begins (fresh usual) usual closes
 
-fresh-setup : Keeps (leaving (λ z. fresh (small 2 8 4095 Opt.None))) → ⊥
-fresh-setup k = differ (ap (λ (s : Setup). s.limits.memory) (left (λ z. fresh (small 2 8 4095 Opt.None)) k).setup) refl
+fresh-setup : Keeps (leaving (λ z. fresh (small 2 8 4095 None))) → ⊥
+fresh-setup k = differ (ap (λ (s : Setup). s.limits.memory) (left (λ z. fresh (small 2 8 4095 None)) k).setup) refl
 
 fresh-stack : Keeps (leaving (with_stack (7 ∷ []))) → ⊥
 fresh-stack k = differ (ap (λ (xs : List ℕ). length xs) (left (with_stack (7 ∷ [])) k).stack) refl
@@ -318,8 +317,8 @@ fresh-finalize k = differ (ap (λ (xs : List ℕ). length xs) (left (with_finali
 fresh-finalizing : Keeps (leaving (with_finalizing true)) → ⊥
 fresh-finalizing k = true≢false (left (with_finalizing true) k).finalizing
 
-fresh-outcome : Keeps (leaving (with_outcome (Outcome.Some (Stop.Yielded 7)))) → ⊥
-fresh-outcome k = differ (ap outcome_word (left (with_outcome (Outcome.Some (Stop.Yielded 7))) k).outcome) refl
+fresh-outcome : Keeps (leaving (with_outcome (Some (Stop.Yielded 7)))) → ⊥
+fresh-outcome k = differ (ap outcome_word (left (with_outcome (Some (Stop.Yielded 7))) k).outcome) refl
 
 fresh-used : Keeps (leaving (with_used 7)) → ⊥
 fresh-used k = differ (left (with_used 7) k).used refl
@@ -328,7 +327,7 @@ fresh-seq : Keeps (leaving (with_seq 7)) → ⊥
 fresh-seq k = differ (left (with_seq 7) k).seq refl
 
 abbrev banking : World → World
-banking = with_fuel (record { fuel = 0; bank = Opt.Some 7; ready = false })
+banking = with_fuel (record { fuel = 0; bank = Some 7; ready = false })
 
 fresh-bank : Keeps (leaving banking) → ⊥
 fresh-bank k = false≢true (ap is_none (left banking k).bank)

@@ -22,7 +22,7 @@ use Rattle.model.specs.declared.program.Handler.{Handler}
 use Rattle.model.specs.declared.machine.Cont.{Cont}
 use Rattle.model.specs.declared.machine.Frame.{Frame}
 use Rattle.model.specs.declared.exec.Step.{Step}
-use Rattle.model.specs.declared.call.OptPc.{OptPc}
+use Rattle.std.specs.Prelude.{Option, None}
 use Rattle.model.specs.declared.call.Op.{Op}
 use Rattle.model.specs.declared.call.Answer.{Answer}
 use Rattle.claims_sheet.specs.Setters.{with_slots, with_finalize}
@@ -151,8 +151,8 @@ return-delivers p is kind v w t x xs s e b l m n = stopped Fault.OutOfFuel w (op
 
 -- ---- a raised word
 
-module _ (p : (e : Fault) (pc : OptPc) (w : World) (t : typed (Op.Unwind e pc) ≡ true) (above : List Frame) (x : Frame) (xs : List Frame) (u : World) (h : Comes e pc w above x xs u) → Ending e pc w t above x xs u h)
-    (e : Fault) (pc : OptPc) (w : World) (t : typed (Op.Unwind e pc) ≡ true) (above : List Frame) (x : Frame) (xs : List Frame) (u : World) (c : Comes e pc w above x xs u) where
+module _ (p : (e : Fault) (pc : Option ℕ) (w : World) (t : typed (Op.Unwind e pc) ≡ true) (above : List Frame) (x : Frame) (xs : List Frame) (u : World) (h : Comes e pc w above x xs u) → Ending e pc w t above x xs u h)
+    (e : Fault) (pc : Option ℕ) (w : World) (t : typed (Op.Unwind e pc) ≡ true) (above : List Frame) (x : Frame) (xs : List Frame) (u : World) (c : Comes e pc w above x xs u) where
   caught : Ten → (h : Handler) (hs : List Handler) → takers x u ≡ h ∷ hs → used_up u ≡ false → ⊥
   caught is h hs k n = stopped Fault.OutOfFuel w (operation (Op.Unwind e pc) t) is ((p e pc w t above x xs u c).caught h hs k n) refl
 
@@ -182,16 +182,16 @@ one_unit p pay same w s u e = let z : reserve w + 1 ≡ reserve w = ap (λ (x : 
 -- ---- two calls
 
 module _ (p : (pc dst c src : ℕ) (w : World) (h : Passes pc dst c src w) (s : enters any_suspended (held c pc w) (at pc w) ≡ true) → Closing pc dst c src w h s) (is : Ten)
-    (pc dst c src : ℕ) (w : World) (h : Passes pc dst c src w) (s : enters any_suspended (held c pc w) (at pc w) ≡ true) (u : typed (Op.Unwind (Fault.Throw (held src pc w)) OptPc.None) ≡ true)
+    (pc dst c src : ℕ) (w : World) (h : Passes pc dst c src w) (s : enters any_suspended (held c pc w) (at pc w) ≡ true) (u : typed (Op.Unwind (Fault.Throw (held src pc w)) None) ≡ true)
     (un : each (λ f. is_nil (takers f (at pc w))) (core_of (found (at pc w) (held c pc w))).frames ≡ true) where
   close-uncaught : (t : typed (Op.CoroClose pc dst c src) ≡ true) → sound (does w (operation (Op.CoroClose pc dst c src) t)).world ≡ true → ⊥
-  close-uncaught t g = stopped Fault.OutOfFuel (does w (operation (Op.CoroClose pc dst c src) t)).world (operation (Op.Unwind (Fault.Throw (held src pc w)) OptPc.None) u) is ((p pc dst c src w h s).close-uncaught t u un g) refl
+  close-uncaught t g = stopped Fault.OutOfFuel (does w (operation (Op.CoroClose pc dst c src) t)).world (operation (Op.Unwind (Fault.Throw (held src pc w)) None) u) is ((p pc dst c src w h s).close-uncaught t u un g) refl
 
   throw-uncaught : (t : typed (Op.ResumeThrow pc dst c src) ≡ true) (x : Frame) (xs : List Frame) (k : Handler) (ks : List Handler) → (rest_of (found (at pc w) (held c pc w))).closing ≡ false →
       sound (does w (operation (Op.ResumeThrow pc dst c src) t)).world ≡ true → (at pc w).frames ≡ x ∷ xs → takers x (finished_with (held c pc w) CoroState.Failed (held src pc w) (at pc w)) ≡ k ∷ ks →
       used_up (finished_with (held c pc w) CoroState.Failed (held src pc w) (at pc w)) ≡ false → ⊥
   throw-uncaught t x xs k ks q g e l n =
-      stopped Fault.OutOfFuel (does w (operation (Op.ResumeThrow pc dst c src) t)).world (operation (Op.Unwind (Fault.Throw (held src pc w)) OptPc.None) u) is
+      stopped Fault.OutOfFuel (does w (operation (Op.ResumeThrow pc dst c src) t)).world (operation (Op.Unwind (Fault.Throw (held src pc w)) None) u) is
       ((p pc dst c src w h s).throw-uncaught t u x xs k ks un q g e l n) refl
 
 -- ---- deletion, and what departs

@@ -9,7 +9,7 @@ use borrow.Author.Tests.{ltb-true}
 use Rattle.lists.specs.Pick.{pick, pick-false}
 use Rattle.heap.specs.Fault as Faults
 use Rattle.heap.specs.declared.fault.Fault.{Fault}
-use Rattle.heap.specs.declared.value.Opt.{Opt}
+use Rattle.std.specs.Prelude.{Some, None}
 use Rattle.model.specs.Lists.{is_nil, each}
 use Rattle.model.specs.Program as Program
 use Rattle.model.specs.Object.{Object, as_coro}
@@ -23,7 +23,6 @@ use Rattle.model.specs.declared.machine.Active.{Active}
 use Rattle.model.specs.declared.machine.Charge.{Charge}
 use Rattle.model.specs.declared.machine.Driver.{Driver}
 use Rattle.model.specs.declared.exec.Step.{Step}
-use Rattle.model.specs.declared.call.OptPc.{OptPc}
 use Rattle.model.specs.Call.{Operation, Do, typed}
 use Rattle.model.specs.Calls.{Row, Instruction, table}
 use Rattle.model.specs.Step.{Out, told, doing, call, tested, step}
@@ -138,7 +137,7 @@ instruction-is pc ok operands arm own w h e does wells =
     o : Lines Step
     o = own u
 
-    behind : and_then (charge (OptPc.Some pc) w) (Gate.charged arm)
+    behind : and_then (charge (Some pc) w) (Gate.charged arm)
         ≡ pick (used_up w) (after (bank_back w) (Answer.Stepped (Step.Fault Fault.OutOfFuel) 0)) (pick (starts pc w) (after (cleanup pc w) (Answer.Cleanup n)) (leads_from (map (as_answer n) o.tests) (as_answer n o.done)))
     behind =
         ap (λ (x : After Charge). and_then x (Gate.charged arm)) (charge-is pc w (sound-saved w h))
@@ -267,7 +266,7 @@ holds (Op.MakeIterator v) =
     other (λ w _ _. make-iterator-is v w) (λ w _. refl)
     (λ w. by w (table_of (Op.MakeIterator v) w) (
       (no w refl, (no w refl, (no w refl, (λ e. is14 w w (stays w) e, tt)))),
-      to w _ (adds w (Object.Iter v false Opt.None) w.setup.costs.iter w refl (same-world w)).stays refl,
+      to w _ (adds w (Object.Iter v false None) w.setup.costs.iter w refl (same-world w)).stays refl,
     ))
     (λ w. refl) (λ w l. (never, (never, (never, (λ _. (refl, refl), tt)))))
 holds Op.TakeOutcome = plainly (λ w _ _. take-outcome-is w) (λ w _. refl) (λ w. (tt, to w _ (stays w) refl)) (λ w. refl)

@@ -8,7 +8,7 @@ use lib.Dec.{leb}
 use Rattle.lists.specs.Pick.{pick, pick-false}
 use Rattle.heap.specs.Charge.{sat_add}
 use Rattle.heap.specs.declared.fault.Fault.{Fault}
-use Rattle.heap.specs.declared.value.Opt.{Opt}
+use Rattle.std.specs.Prelude.{Option, Result, Some, None, Ok, Err}
 use Rattle.heap.specs.declared.object.CoroState.{CoroState}
 use Rattle.model.specs.Lists.{is_nil}
 use Rattle.model.specs.Object.{Core, Rest, Is, with_payload, with_maxregs, with_maxframes}
@@ -26,8 +26,6 @@ use Rattle.model.specs.declared.machine.Driver.{Driver}
 use Rattle.model.specs.declared.machine.Frame.{Frame}
 use Rattle.model.specs.declared.machine.Stop.{Stop}
 use Rattle.model.specs.declared.coro.Event.{Event}
-use Rattle.model.specs.declared.coro.Keys.{Keys}
-use Rattle.model.specs.declared.coro.Suspension.{Suspension}
 use Rattle.model.specs.declared.exec.Step.{Step}
 use Rattle.claims_sheet.specs.Lines.{leads_from}
 use Rattle.claims_sheet.specs.Words.{found, is_coroutine, core_of, lacks_memory}
@@ -54,17 +52,17 @@ length-map g (f ∷ fs) = ap suc (length-map g fs)
 
 -- ---- deliveries
 
-armed-is : (b : Opt) (n : ℕ) (rd : Bool) → arm_at b (fuel_of n b rd) ≡ armed b n rd
-armed-is Opt.None n rd = refl
-armed-is (Opt.Some m) n rd = refl
+armed-is : (b : Option ℕ) (n : ℕ) (rd : Bool) → arm_at b (fuel_of n b rd) ≡ armed b n rd
+armed-is None n rd = refl
+armed-is (Some m) n rd = refl
 
 pub cleaning-is : (b : Bool) (w : World) → set_finalizing b w ≡ cleaning b w
 cleaning-is b w = ap (λ f. with_fuel f (with_finalizing b w)) (armed-is w.fuel.bank w.fuel.fuel (not b && not (is_nil w.finalize)))
 
-loop-is : (has val it payload key : ℕ) (S : World) → Coros.coro_send has 1 (Frames.put_reg val payload (Heaps.set_key it key S)) ≡ sent has 1 (put val payload (marked it (λ d. d) (λ k. Opt.Some key) S))
+loop-is : (has val it payload key : ℕ) (S : World) → Coros.coro_send has 1 (Frames.put_reg val payload (Heaps.set_key it key S)) ≡ sent has 1 (put val payload (marked it (λ d. d) (λ k. Some key) S))
 loop-is has val it payload key S =
-    let m = marked it (λ d. d) (λ k. Opt.Some key) S in
-    ap (λ w. Coros.coro_send has 1 (Frames.put_reg val payload w)) (marked-is it (λ d. d) (λ k. Opt.Some key) S)
+    let m = marked it (λ d. d) (λ k. Some key) S in
+    ap (λ w. Coros.coro_send has 1 (Frames.put_reg val payload w)) (marked-is it (λ d. d) (λ k. Some key) S)
     ∙ (ap (λ w. Coros.coro_send has 1 w) (put_is val payload m) ∙ sent_is has 1 (put val payload m))
 
 yields-to : (d : Driver) (cl : Bool) (payload key : ℕ) (S : World) →
@@ -91,29 +89,29 @@ awaits-to Driver.Finalize payload e S = ap (λ w. after w Step.Frame) (cleaning-
 
 -- ---- the suspension
 
-module _ (st : CoroState) (dst payload : ℕ) (keys : Keys) (a : Active) (chain : List Active) (r : Rest) (z : World) where
+module _ (st : CoroState) (dst payload : ℕ) (keys : Option (ℕ × ℕ)) (a : Active) (chain : List Active) (r : Rest) (z : World) where
   -- with the base of its floor and the number of its frames
-  abbrev body : ℕ → ℕ → After Suspension
+  abbrev body : ℕ → ℕ → After (Result (Driver × Event) Fault)
   body s n =
       let grown = (length (drop s z.stack) - r.maxregs) * 8 + (n - r.maxframes) * z.setup.costs.frame in
       let k : Core = record { state = st; regs = drop s z.stack; frames = map (lower s) (above a.floor z.frames); waiting = dst } in
-      pick (not (fits z grown)) (after z (Suspension.Refused Fault.OutOfMemory))
+      pick (not (fits z grown)) (after z (Err Fault.OutOfMemory))
       (after
       (set_coro a.coro k (Coros.unclose st (Coros.set_keys keys (with_payload payload (with_maxregs (max r.maxregs (length (drop s z.stack))) (with_maxframes (max r.maxframes n) r)))))
       (with_chain chain (with_frames (Frames.below a.floor z.frames) (with_stack (take s z.stack) (with_used (sat_add z.used grown) z)))))
-      (Suspension.Done a.driver (Coros.event_of st payload (Coros.set_keys keys r))))
+      (Ok (a.driver, Coros.event_of st payload (Coros.set_keys keys r))))
 
   suspends-as : (k : Core) → Coros.suspend_coroutine (Is k r) a chain (Coros.saved st dst a.floor z) payload keys z ≡ body (base_at a.floor z.frames) (length (map (lower (base_at a.floor z.frames)) (above a.floor z.frames)))
   suspends-as k = refl
 
-module _ (st : CoroState) (dst payload : ℕ) (keys : Keys) (a : Active) (chain : List Active) (w : World) (sane : Sane (with_chain (a ∷ chain) w)) where
+module _ (st : CoroState) (dst payload : ℕ) (keys : Option (ℕ × ℕ)) (a : Active) (chain : List Active) (w : World) (sane : Sane (with_chain (a ∷ chain) w)) where
   abbrev z₀ : World
   z₀ = with_chain (a ∷ chain) w
 
   suspends : Coros.coro_suspend st dst payload keys z₀ ≡ body st dst payload keys a chain (rest_here z₀) z₀ (floor_base z₀) (length (held_frames z₀))
   unfolding Coros.coro_suspend
   suspends =
-      ap (λ b. pick b (after z₀ (Suspension.Refused Fault.CannotSuspend)) (Coros.suspend_coroutine (coro z₀ a.coro) a chain (Coros.saved st dst a.floor z₀) payload keys z₀)) (sane.inside refl)
+      ap (λ b. pick b (after z₀ (Err Fault.CannotSuspend)) (Coros.suspend_coroutine (coro z₀ a.coro) a chain (Coros.saved st dst a.floor z₀) payload keys z₀)) (sane.inside refl)
       ∙ (pick-false _ (Coros.suspend_coroutine (coro z₀ a.coro) a chain (Coros.saved st dst a.floor z₀) payload keys z₀)
       ∙ (ap (λ x. Coros.suspend_coroutine x a chain (Coros.saved st dst a.floor z₀) payload keys z₀) (coro-is z₀ a.coro ∙ coroutine (found z₀ a.coro) (sane.runs refl))
       ∙ (suspends-as st dst payload keys a chain (rest_here z₀) z₀ (core_of (found z₀ a.coro))
@@ -121,10 +119,10 @@ module _ (st : CoroState) (dst payload : ℕ) (keys : Keys) (a : Active) (chain 
 
 -- what is left suspended, however closing and keys are seen to
 module _ (st : CoroState) (dst : ℕ) (a : Active) (chain : List Active) (w : World) where
-  left_is : (payload : ℕ) (keys : Keys) → body st dst payload keys a chain (rest_here (with_chain (a ∷ chain) w)) (with_chain (a ∷ chain) w) (floor_base (with_chain (a ∷ chain) w)) (length (held_frames (with_chain (a ∷ chain) w)))
-      ≡ pick (lacks_memory (with_chain (a ∷ chain) w) (growth (with_chain (a ∷ chain) w))) (after (with_chain (a ∷ chain) w) (Suspension.Refused Fault.OutOfMemory))
+  left_is : (payload : ℕ) (keys : Option (ℕ × ℕ)) → body st dst payload keys a chain (rest_here (with_chain (a ∷ chain) w)) (with_chain (a ∷ chain) w) (floor_base (with_chain (a ∷ chain) w)) (length (held_frames (with_chain (a ∷ chain) w)))
+      ≡ pick (lacks_memory (with_chain (a ∷ chain) w) (growth (with_chain (a ∷ chain) w))) (after (with_chain (a ∷ chain) w) (Err Fault.OutOfMemory))
       (after (suspended_with (saved_core st dst (with_chain (a ∷ chain) w)) (Coros.unclose st (Coros.set_keys keys (saved_rest (with_chain (a ∷ chain) w) payload (rest_here (with_chain (a ∷ chain) w))))) (with_chain (a ∷ chain) w))
-      (Suspension.Done a.driver (Coros.event_of st payload (Coros.set_keys keys (rest_here (with_chain (a ∷ chain) w))))))
+      (Ok (a.driver, Coros.event_of st payload (Coros.set_keys keys (rest_here (with_chain (a ∷ chain) w))))))
   left_is payload keys = refl
 
 pub sane-stored : (pc : ℕ) (w : World) → Sane w → Sane (pc_stored pc w)
@@ -132,22 +130,22 @@ sane-stored pc w sane =
     record { runs = sane.runs; inside = λ h. ap (λ n. leb n (innermost_active w.chain).floor) (length_at pc w.frames) ∙ sane.inside h }
 
 pub yields-is : (cs : List Active) (pc dst payload key largest : ℕ) (k : World) → is_nil cs ≡ false → Sane (with_chain cs k) →
-    Exec.suspend pc CoroState.Yielded dst payload (Keys.Set key largest) (with_chain cs k) ≡ leads_from (yields pc dst payload key largest (with_chain cs k)) (yield_ends pc dst payload key largest (with_chain cs k))
+    Exec.suspend pc CoroState.Yielded dst payload (Some (key, largest)) (with_chain cs k) ≡ leads_from (yields pc dst payload key largest (with_chain cs k)) (yield_ends pc dst payload key largest (with_chain cs k))
 yields-is [] pc dst payload key largest k h sane = absurd (true≢false h)
 yields-is (a ∷ chain) pc dst payload key largest k h sane =
     let z = pc_stored pc (with_chain (a ∷ chain) k) in
-    ap (λ x. and_then (Coros.coro_suspend CoroState.Yielded dst payload (Keys.Set key largest) x) Exec.deliver_all) (stored pc (with_chain (a ∷ chain) k))
-    ∙ (ap (λ (x : After Suspension). and_then x Exec.deliver_all) (suspends CoroState.Yielded dst payload (Keys.Set key largest) a chain (pc_stored pc k) (sane-stored pc (with_chain (a ∷ chain) k) sane))
-    ∙ (then_one Exec.deliver_all (lacks_memory z (growth z)) (after z (Suspension.Refused Fault.OutOfMemory)) _
+    ap (λ x. and_then (Coros.coro_suspend CoroState.Yielded dst payload (Some (key, largest)) x) Exec.deliver_all) (stored pc (with_chain (a ∷ chain) k))
+    ∙ (ap (λ (x : After (Result (Driver × Event) Fault)). and_then x Exec.deliver_all) (suspends CoroState.Yielded dst payload (Some (key, largest)) a chain (pc_stored pc k) (sane-stored pc (with_chain (a ∷ chain) k) sane))
+    ∙ (then_one Exec.deliver_all (lacks_memory z (growth z)) (after z (Err Fault.OutOfMemory)) _
     ∙ below _ _ (yields-to a.driver (rest_here z).closing payload key (suspended_by_yield dst payload key largest z))))
 
 pub awaits-is : (cs : List Active) (pc dst payload : ℕ) (k : World) → is_nil cs ≡ false → Sane (with_chain cs k) →
-    Exec.suspend pc CoroState.Awaiting dst payload Keys.Keep (with_chain cs k) ≡ leads_from (awaits pc dst payload (with_chain cs k)) (await_ends pc dst payload (with_chain cs k))
+    Exec.suspend pc CoroState.Awaiting dst payload None (with_chain cs k) ≡ leads_from (awaits pc dst payload (with_chain cs k)) (await_ends pc dst payload (with_chain cs k))
 awaits-is [] pc dst payload k h sane = absurd (true≢false h)
 awaits-is (a ∷ chain) pc dst payload k h sane =
     let z = pc_stored pc (with_chain (a ∷ chain) k) in
-    ap (λ x. and_then (Coros.coro_suspend CoroState.Awaiting dst payload Keys.Keep x) Exec.deliver_all) (stored pc (with_chain (a ∷ chain) k))
-    ∙ (ap (λ (x : After Suspension). and_then x Exec.deliver_all) (suspends CoroState.Awaiting dst payload Keys.Keep a chain (pc_stored pc k) (sane-stored pc (with_chain (a ∷ chain) k) sane))
-    ∙ (then_one Exec.deliver_all (lacks_memory z (growth z)) (after z (Suspension.Refused Fault.OutOfMemory)) _
+    ap (λ x. and_then (Coros.coro_suspend CoroState.Awaiting dst payload None x) Exec.deliver_all) (stored pc (with_chain (a ∷ chain) k))
+    ∙ (ap (λ (x : After (Result (Driver × Event) Fault)). and_then x Exec.deliver_all) (suspends CoroState.Awaiting dst payload None a chain (pc_stored pc k) (sane-stored pc (with_chain (a ∷ chain) k) sane))
+    ∙ (then_one Exec.deliver_all (lacks_memory z (growth z)) (after z (Err Fault.OutOfMemory)) _
     ∙ below _ _ (ap (λ r. and_then (Coros.deliver a.driver (Coros.event_of CoroState.Awaiting payload (rest_here z)) (suspended_with (saved_core CoroState.Awaiting dst z) r z)) Exec.delivered) (pick-false _ (saved_rest z payload (rest_here z)))
     ∙ awaits-to a.driver payload _ (suspended_by_await dst payload z))))

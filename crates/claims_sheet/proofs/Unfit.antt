@@ -8,7 +8,7 @@ use lib.Seq.{get_or-set_other}
 use lib.Dec.{eqb, ltb}
 use Rattle.lists.specs.Pick.{pick}
 use Rattle.heap.specs.Table.{Slot, slot}
-use Rattle.heap.specs.declared.value.Opt.{Opt}
+use Rattle.std.specs.Prelude.{Option, Some, None}
 use Rattle.heap.specs.declared.object.CoroState.{CoroState}
 use Rattle.model.specs.Lists.{is_nil, each, distinct}
 use Rattle.model.specs.Object.{Core, Rest, Object, as_coro}
@@ -124,14 +124,14 @@ module _ (c : ℕ) where
   something (Object.Error e n p x) q = refl
   something (Object.Coro k r) e = refl
 
-  marks : (x : World) (v : ℕ) (f : Bool → Bool) (g : Opt → Opt) → is_coroutine (found x c) ≡ true → Same x (marked v f g x)
+  marks : (x : World) (v : ℕ) (f : Bool → Bool) (g : Option ℕ → Option ℕ) → is_coroutine (found x c) ≡ true → Same x (marked v f g x)
   marks x v f g e =
       by-test (λ y. Same x y) (eqb (kind (found x v)) 3)
       (λ k. elsewhere (λ o. eqb (kind o) 3) x c v (object (found x c) e) (something (found x v) k) (iterates (found x c) e) k (iterator f g (found x v))) (λ _. refl)
 
   delivers : (d : Driver) (payload key : ℕ) (s : Stop) (x : World) → is_coroutine (found x c) ≡ true → Same x (delivered d payload key s x)
   delivers (Driver.Resume dst) payload key s x e = refl
-  delivers (Driver.Iter has val iter) payload key s x e = marks x iter (λ d. d) (λ _. Opt.Some key) e
+  delivers (Driver.Iter has val iter) payload key s x e = marks x iter (λ d. d) (λ _. Some key) e
   delivers Driver.Host payload key s x e = refl
   delivers Driver.Finalize payload key s x e = refl
 
@@ -342,16 +342,16 @@ module _ (w : World) (c : ℕ) (s : sound w ≡ true) (there : is_coroutine (fou
     abbrev Still : World → Type 0
     Still u = Waits c u × (found u c ≡ found w c)
 
-    plain : (n : ℕ) (bank : Opt) (ready : Bool) → Still (fuelled n bank ready w)
+    plain : (n : ℕ) (bank : Option ℕ) (ready : Bool) → Still (fuelled n bank ready w)
     plain n bank ready = (record { there = there; waits = waits; unfit = λ p. unfits (at_pc p w.frames) (as_many p w.frames); inner = inner }, refl)
 
-    searched : (n : ℕ) (bank : Opt) (ready : Bool) → Still (fuelled n bank ready (with_finalizing false (with_finalize [] (pc_stored pc w))))
+    searched : (n : ℕ) (bank : Option ℕ) (ready : Bool) → Still (fuelled n bank ready (with_finalizing false (with_finalize [] (pc_stored pc w))))
     searched n bank ready = (record { there = there; waits = waits; unfit = λ p. unfits (at_pc p (at_pc pc w.frames)) (as_many p (at_pc pc w.frames) ∙ as_many pc w.frames); inner = inner }, refl)
 
     still-waits : Still (charged pc w)
     still-waits =
         both Still (not (eqb w.fuel.fuel 0)) (plain (w.fuel.fuel - 1) w.fuel.bank w.fuel.ready)
-        (both Still (not w.fuel.ready) (plain (reserve w - 1) Opt.None false) (searched (reserve w - 1) Opt.None false))
+        (both Still (not w.fuel.ready) (plain (reserve w - 1) None false) (searched (reserve w - 1) None false))
 
   pub stays : (o : Operation) → is_instruction o.op ≡ true → found (does w o).world c ≡ found w c
   stays o i =

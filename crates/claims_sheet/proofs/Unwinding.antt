@@ -19,14 +19,13 @@ use Rattle.model.specs.Coro as Coros
 use Rattle.model.specs.Cleanup.{charge}
 use Rattle.model.specs.Machine as Machine
 use Rattle.model.specs.declared.program.Handler.{Handler}
-use Rattle.model.specs.declared.program.Caught.{Caught}
+use Rattle.std.specs.Prelude.{Option, Some, None}
 use Rattle.model.specs.declared.machine.Active.{Active}
 use Rattle.model.specs.declared.machine.Charge.{Charge}
 use Rattle.model.specs.declared.machine.Cont.{Cont}
 use Rattle.model.specs.declared.machine.Driver.{Driver}
 use Rattle.model.specs.declared.machine.Frame.{Frame}
 use Rattle.model.specs.declared.machine.Stop.{Stop}
-use Rattle.model.specs.declared.call.OptPc.{OptPc}
 use Rattle.model.specs.declared.call.Answer.{Answer}
 use Rattle.claims_sheet.specs.Lines.{Line, leads_from, leads, fault, line}
 use Rattle.claims_sheet.specs.Words.{found, rest_of, lacks_memory, no_slot}
@@ -44,11 +43,11 @@ use Rattle.claims_sheet.proofs.Finishing.{returned-is}
 
 -- ---- the handler
 
-caught_of : List Handler → Caught
-caught_of [] = Caught.Nothing
-caught_of (h ∷ hs) = Caught.By h
+caught_of : List Handler → Option Handler
+caught_of [] = None
+caught_of (h ∷ hs) = Some h
 
-caught-by : (b : Bool) (h : Handler) (hs l : List Handler) → pick b (Caught.By h) (caught_of l) ≡ caught_of (pick b (h ∷ hs) l)
+caught-by : (b : Bool) (h : Handler) (hs l : List Handler) → pick b (Some h) (caught_of l) ≡ caught_of (pick b (h ∷ hs) l)
 unfolding pick caught_of
 caught-by true h hs l = refl
 caught-by false h hs l = refl
@@ -56,9 +55,9 @@ caught-by false h hs l = refl
 caught-is : (pc : ℕ) (hs : List Handler) → Program.first_of pc hs ≡ caught_of (covering pc hs)
 unfolding caught_of
 caught-is pc [] = refl
-caught-is pc (h ∷ hs) = ap (λ c. pick (Program.covers pc h) (Caught.By h) c) (caught-is pc hs) ∙ caught-by (Program.covers pc h) h hs (covering pc hs)
+caught-is pc (h ∷ hs) = ap (λ c. pick (Program.covers pc h) (Some h) c) (caught-is pc hs) ∙ caught-by (Program.covers pc h) h hs (covering pc hs)
 
-takes : (h : Handler) (value : ℕ) (w : World) → and_then (charge OptPc.None w) (Machine.caught h value)
+takes : (h : Handler) (value : ℕ) (w : World) → and_then (charge None w) (Machine.caught h value)
     ≡ pick (used_up w) (after (bank_back w) (Answer.Refused Fault.OutOfFuel)) (after (put h.catch value (pc_stored h.target (paid w))) Answer.Caught)
 takes h value w =
     ap (λ (x : After Charge). and_then x (Machine.caught h value)) (paid-is w)
@@ -204,10 +203,10 @@ unwinds Fault.Busy z w = refl
 unwinds Fault.GrantTooLarge z w = refl
 unwinds (Fault.Throw v) z w = raised_is v (line 17 true (Answer.Refused (Fault.Throw v)) z) z
 
-given_is : (pc : OptPc) (w : World) → Machine.store_some pc w ≡ given_pc_stored pc w
-given_is OptPc.None w = refl
-given_is (OptPc.Some pc) w = stored pc w
+given_is : (pc : Option ℕ) (w : World) → Machine.store_some pc w ≡ given_pc_stored pc w
+given_is None w = refl
+given_is (Some pc) w = stored pc w
 
-pub unwind-is : (e : Fault) (pc : OptPc) (w : World) → Machine.unwind e pc w ≡ leads (Table.unwind e pc w)
+pub unwind-is : (e : Fault) (pc : Option ℕ) (w : World) → Machine.unwind e pc w ≡ leads (Table.unwind e pc w)
 unfolding Machine.unwind
 unwind-is e pc w = ap (λ z. at e z w) (given_is pc w) ∙ unwinds e (given_pc_stored pc w) w

@@ -11,7 +11,7 @@ use Rattle.heap.specs.Fault.{number_of, word_of}
 use Rattle.heap.specs.declared.fault.Fault.{Fault}
 use Rattle.heap.specs.declared.heap.ResultKind.{ResultKind}
 use Rattle.heap.specs.declared.object.CoroState.{CoroState}
-use Rattle.heap.specs.declared.value.Opt.{Opt}
+use Rattle.std.specs.Prelude.{Option as RustOption, Some, None}
 use Rattle.model.specs.Lists.{each, among}
 use Rattle.model.specs.World.{World, with_finalize}
 use Rattle.model.specs.Answer as Answers
@@ -21,7 +21,6 @@ use Rattle.model.specs.declared.machine.Driver.{Driver}
 use Rattle.model.specs.declared.machine.Frame.{Frame}
 use Rattle.model.specs.declared.machine.Stop.{Stop}
 use Rattle.model.specs.declared.exec.Step.{Step}
-use Rattle.model.specs.declared.call.OptPc.{OptPc}
 use Rattle.model.specs.declared.call.Op.{Op}
 use Rattle.model.specs.declared.call.Answer.{Answer}
 use Rattle.claims_sheet.specs.Lines.{Line, Lines, leads_from, says_from, line, refuse}
@@ -180,23 +179,23 @@ raisable Fault.Busy h = absurd (true≢false h)
 raisable Fault.GrantTooLarge h = absurd (true≢false h)
 raisable (Fault.Throw v) h = refl
 
-module _ (e : Fault) (pc : OptPc) (w : World) where
+module _ (e : Fault) (pc : RustOption ℕ) (w : World) where
   abbrev z : World
   z = given_pc_stored pc w
 
   given-kept : Kept w z
   given-kept = go pc
     where
-      go : (pc : OptPc) → Kept w (given_pc_stored pc w)
-      go OptPc.None = same-world w
-      go (OptPc.Some p) = same-world w
+      go : (pc : RustOption ℕ) → Kept w (given_pc_stored pc w)
+      go None = same-world w
+      go (Some p) = same-world w
 
   given-slots : no_slot z ≡ no_slot w
   given-slots = go pc
     where
-      go : (pc : OptPc) → no_slot (given_pc_stored pc w) ≡ no_slot w
-      go OptPc.None = refl
-      go (OptPc.Some p) = refl
+      go : (pc : RustOption ℕ) → no_slot (given_pc_stored pc w) ≡ no_slot w
+      go None = refl
+      go (Some p) = refl
 
   abbrev raised : List (Line Answer)
   raised = pick (leb (number_of e) 8) (Unwinding.search_from_top (new_word z) (error_stored (number_of e) z)) (Unwinding.search_from_top (word_of e) z)
@@ -222,9 +221,9 @@ module _ (e : Fault) (pc : OptPc) (w : World) where
 pub by : (w : World) (s : Lines Answer) → Facts w s → Fact w (says_from s.tests s.done) (leads_from s.tests s.done).world
 by w s h = led-line (λ m x. Fact w m x) s.tests s.done h.0 h.1
 
-pub granted-facts : (w : World) (b : Opt) (n : ℕ) → Fact w 0 (Others.granted b n w)
-granted-facts w Opt.None n = to w (Others.granted Opt.None n w) (stays w) refl
-granted-facts w (Opt.Some m) n = to w (Others.granted (Opt.Some m) n w) (stays w) refl
+pub granted-facts : (w : World) (b : RustOption ℕ) (n : ℕ) → Fact w 0 (Others.granted b n w)
+granted-facts w None n = to w (Others.granted None n w) (stays w) refl
+granted-facts w (Some m) n = to w (Others.granted (Some m) n w) (stays w) refl
 
 pub task-facts : (v : ℕ) (w : World) → Facts w (Others.spawn_task v w)
 task-facts v w = ((no w refl, tt), to w (Others.spawn_task v w).done.left (both (λ (x : World). Stays w x) _ (record { setup = refl; full = λ h. set-filled w.slots _ _ refl h }) (stays w)) refl)
@@ -269,7 +268,7 @@ search-right : (fs : List Frame) (value f pc : ℕ) (w : World) → found_right 
 search-right [] value f pc w = refl
 search-right (x ∷ xs) value f pc w = search-right xs value f pc (left x xs value w)
 
-pub unwind-right : (e : Fault) (pc : OptPc) (w : World) → rights false (Unwinding.unwind e pc w) ≡ true
+pub unwind-right : (e : Fault) (pc : RustOption ℕ) (w : World) → rights false (Unwinding.unwind e pc w) ≡ true
 unwind-right e pc w = λ i. ((own i && and_left (each tells (raised e pc w)) _ found i) && own i) && (and_right (each tells (raised e pc w)) _ found i && true)
   where
     own : eqb (number_of e) (number_of e) ≡ true
@@ -308,7 +307,7 @@ finish-on-14 (f ∷ fs) k v w l = finish-14 f.cont f fs k v w l
 nine-ten : {A : Type 0} (n : ℕ) → eqb n 14 && (eqb n 9 || eqb n 10) ≡ true → A
 nine-ten n h = never (subst (λ m. eqb m 9 || eqb m 10 ≡ true) (same n 14 (and_left (eqb n 14) _ h)) (and_right (eqb n 14) _ h))
 
-pub unwind-14 : (e : Fault) (pc : OptPc) (w : World) (l : Line Answer) → Behind9 l (Unwinding.unwind e pc w).tests
+pub unwind-14 : (e : Fault) (pc : RustOption ℕ) (w : World) (l : Line Answer) → Behind9 l (Unwinding.unwind e pc w).tests
 unwind-14 e pc w l =
     let n = number_of e in
     let y = z e pc w in

@@ -12,7 +12,7 @@ use Rattle.heap.specs.Table.{Slot, slot, get_in}
 use Rattle.heap.specs.Word.{slot_of, tag_of, top_of}
 use Rattle.heap.specs.declared.fault.Fault.{Fault}
 use Rattle.heap.specs.declared.value.Class.{Class}
-use Rattle.heap.specs.declared.heap.Place.{Place}
+use Rattle.std.specs.Prelude.{Some, None}
 use Rattle.model.specs.Object.{Object, is_filled}
 use Rattle.model.specs.World.{World}
 use Rattle.model.specs.Heap.{object_at, object, not_a}
@@ -84,7 +84,7 @@ module _ (xs : List (Slot Object)) (v : ℕ) where
   there = get_or xs (slot_of v) none
 
   in-slot : (a t f : Bool) → (a ≡ false → there.object ≡ Object.Empty) → (f ≡ false → there.object ≡ Object.Empty) →
-      object_at xs (pick (a && (t && f)) (Place.At (slot_of v)) Place.Nothing) ≡ pick t there.object Object.Empty
+      object_at xs (pick (a && (t && f)) (Some (slot_of v)) None) ≡ pick t there.object Object.Empty
   unfolding pick
   in-slot true true true h k = refl
   in-slot true true false h k = sym (k refl)
@@ -93,7 +93,7 @@ module _ (xs : List (Slot Object)) (v : ℕ) where
   in-slot false false f h k = refl
 
   empty-slot : (a t f : Bool) → (a ≡ false → there.object ≡ Object.Empty) → (f ≡ false → there.object ≡ Object.Empty) → (f ≡ true → is_nothing there.object ≡ false) →
-      Table.not_a (Class.Ref (record { 0 = v })) (pick (a && (t && f)) (Place.At (slot_of v)) Place.Nothing) ≡ pick (is_nothing (pick t there.object Object.Empty) && true) Fault.NullReference Fault.TypeError
+      Table.not_a (Class.Ref (record { 0 = v })) (pick (a && (t && f)) (Some (slot_of v)) None) ≡ pick (is_nothing (pick t there.object Object.Empty) && true) Fault.NullReference Fault.TypeError
   unfolding pick
   empty-slot true true true h k l = ap (λ b. pick (b && true) Fault.NullReference Fault.TypeError) (sym (l refl))
   empty-slot true true false h k l = ap (λ (o : Object). pick (is_nothing o && true) Fault.NullReference Fault.TypeError) (sym (k refl))

@@ -10,11 +10,8 @@ use Rattle.heap.specs.Coding.{in_range, bits_of, of_bits}
 use Rattle.heap.specs.Word.{int_word, top_of}
 use Rattle.heap.specs.Table.{Slot, slot, get, dyn_int_at, dyn_int_by}
 use Rattle.heap.specs.declared.fault.Fault.{Fault}
-use Rattle.heap.specs.declared.value.Opt.{Opt}
+use Rattle.std.specs.Prelude.{Option, Result, Some, None, Ok, Err}
 use Rattle.heap.specs.declared.value.Class.{Class}
-use Rattle.heap.specs.declared.heap.Place.{Place}
-use Rattle.heap.specs.declared.int.Exact.{Exact}
-use Rattle.heap.specs.declared.int.Inline.{Inline}
 use Rattle.heap.specs.declared.object.CoroState.{CoroState}
 use Rattle.model.specs.Lists.{is_nil}
 use Rattle.model.specs.Object.{Object, is_filled}
@@ -23,9 +20,6 @@ use Rattle.model.specs.Frames.{reg}
 use Rattle.model.specs.Heap.{object_at, object, coro, alloc, encode_at, encode_int, int_in, dyn_int}
 use Rattle.model.specs.Exec as Exec
 use Rattle.model.specs.declared.machine.Active.{Active}
-use Rattle.model.specs.declared.coro.WordOr.{WordOr}
-use Rattle.model.specs.declared.coro.AutoKey.{AutoKey}
-use Rattle.model.specs.declared.coro.Keys.{Keys}
 use Rattle.claims_sheet.specs.Lines.{leads_from, leads}
 use Rattle.claims_sheet.specs.Words.{word, is_reference, found, is_coroutine, rest_of, lacks_memory, no_slot}
 use Rattle.claims_sheet.specs.Makings.{stored, new_word}
@@ -43,7 +37,7 @@ use Rattle.claims_sheet.proofs.Suspending.{Sane, yields-is, awaits-is}
 await-by : (cs : List Active) (pc dst src : ℕ) (u : World) → Sane (with_chain cs u) → Exec.await_on cs pc dst src (with_chain cs u) ≡ leads (Table.await pc dst src (with_chain cs u))
 await-by [] pc dst src u sane = sym (pick_true _ _)
 await-by (a ∷ chain) pc dst src u sane =
-    ap (λ p. Exec.suspend pc CoroState.Awaiting dst p Keys.Keep (with_chain (a ∷ chain) u)) (word-is u src)
+    ap (λ p. Exec.suspend pc CoroState.Awaiting dst p None (with_chain (a ∷ chain) u)) (word-is u src)
     ∙ (awaits-is (a ∷ chain) pc dst (word u src) u refl sane
     ∙ sym (pick-false _ (leads_from (awaits pc dst (word u src) (with_chain (a ∷ chain) u)) (await_ends pc dst (word u src) (with_chain (a ∷ chain) u)))))
 
@@ -61,13 +55,13 @@ bits_in_lem (Object.Iter s d k) = refl
 bits_in_lem (Object.Error e f p v) = refl
 bits_in_lem (Object.Coro k r) = refl
 
-at_place : (xs : List (Slot Object)) (p : Place) → dyn_int_at Object.Empty is_filled int_in xs p ≡ int_in (object_at xs p)
-at_place xs Place.Nothing = refl
-at_place xs (Place.At i) = refl
+at_place : (xs : List (Slot Object)) (p : Option ℕ) → dyn_int_at Object.Empty is_filled int_in xs p ≡ int_in (object_at xs p)
+at_place xs None = refl
+at_place xs (Some i) = refl
 
 module _ (w : World) (v z : ℕ) where
   integer-by : (n r i : Bool) → (n ≡ true → i ≡ false) → (r ≡ true → i ≡ false) → (n ≡ true → object w v ≡ Object.Empty) → (n ≡ false → r ≡ false → object w v ≡ Object.Empty) →
-      dyn_int_by Object.Empty is_filled int_in w.slots (pick n Class.Nil (pick r (Class.Ref (record { 0 = v })) (pick i (Class.Int z) Class.Opaque))) ≡ pick i (Opt.Some z) (int_in (object w v))
+      dyn_int_by Object.Empty is_filled int_in w.slots (pick n Class.Nil (pick r (Class.Ref (record { 0 = v })) (pick i (Class.Int z) Class.Opaque))) ≡ pick i (Some z) (int_in (object w v))
   unfolding pick
   integer-by true r true h k e f = absurd (true≢false (h refl))
   integer-by true r false h k e f = ap (λ o. int_in o) (sym (e refl))
@@ -89,13 +83,13 @@ integer-is w v =
     (λ h. subst (λ x. eqb x 0xFFFE ≡ false) (sym (same (top_of v) 1 h)) refl)
     (λ h. no-object w v (sym (top_one v) ∙ nil-first v h))
     (λ h k. no-object w v (sym (top_one v) ∙ k))
-    ∙ ap (λ o. pick (eqb (top_of v) 0xFFFE) (Opt.Some (bits_of 63 (of_bits 47 (v % 2 ^ 48)))) o) (ap (λ o. int_in o) (object-found w v) ∙ bits_in_lem (found w v))
+    ∙ ap (λ o. pick (eqb (top_of v) 0xFFFE) (Some (bits_of 63 (of_bits 47 (v % 2 ^ 48)))) o) (ap (λ o. int_in o) (object-found w v) ∙ bits_in_lem (found w v))
 
 -- ---- YieldKv
 
-raised_is : (l : ℕ) (o : Opt) → Exec.larger_of l o ≡ raised_largest l o
-raised_is l Opt.None = refl
-raised_is l (Opt.Some n) = refl
+raised_is : (l : ℕ) (o : Option ℕ) → Exec.larger_of l o ≡ raised_largest l o
+raised_is l None = refl
+raised_is l (Some n) = refl
 
 largest-is : (w : World) (v : ℕ) → is_coroutine (found w v) ≡ true → Exec.largest_in (coro w v) ≡ (rest_of (found w v)).largest
 largest-is w v h = ap (λ x. Exec.largest_in x) (coro-is w v ∙ coroutine (found w v) h)
@@ -105,9 +99,9 @@ yield-kv-by [] pc dst src key u sane = sym (pick_true _ _)
 yield-kv-by (a ∷ chain) pc dst src key u sane =
     let W = with_chain (a ∷ chain) u in
     let l = raised_largest (rest_here W).largest (integer_of W (word u key)) in
-    ap (λ p. Exec.suspend pc CoroState.Yielded dst p (Keys.Set (reg u key) (Exec.larger_of (Exec.largest_in (coro W a.coro)) (dyn_int W (reg u key)))) W) (word-is u src)
-    ∙ (ap (λ k. Exec.suspend pc CoroState.Yielded dst (word u src) (Keys.Set k (Exec.larger_of (Exec.largest_in (coro W a.coro)) (dyn_int W k))) W) (word-is u key)
-    ∙ (ap (λ m. Exec.suspend pc CoroState.Yielded dst (word u src) (Keys.Set (word u key) m) W)
+    ap (λ p. Exec.suspend pc CoroState.Yielded dst p (Some (reg u key, Exec.larger_of (Exec.largest_in (coro W a.coro)) (dyn_int W (reg u key)))) W) (word-is u src)
+    ∙ (ap (λ k. Exec.suspend pc CoroState.Yielded dst (word u src) (Some (k, Exec.larger_of (Exec.largest_in (coro W a.coro)) (dyn_int W k))) W) (word-is u key)
+    ∙ (ap (λ m. Exec.suspend pc CoroState.Yielded dst (word u src) (Some (word u key, m)) W)
     (ap (λ x. Exec.larger_of x (dyn_int W (word u key))) (largest-is W a.coro (sane.runs refl)) ∙ (ap (λ o. Exec.larger_of (rest_here W).largest o) (integer-is W (word u key)) ∙ raised_is (rest_here W).largest (integer_of W (word u key))))
     ∙ (yields-is (a ∷ chain) pc dst (word u src) (word u key) l u refl sane
     ∙ sym (pick-false _ (leads_from (yields pc dst (word u src) (word u key) l W) (yield_ends pc dst (word u src) (word u key) l W))))))
@@ -150,38 +144,38 @@ module _ (n : ℕ) (u : World) where
   abbrev with_object : World
   with_object = stored (Object.Int n) u.setup.costs.int u
 
-  encode-by : (b : Bool) (x : ℕ) → encode_at (pick b (Inline.At (record { 0 = x })) Inline.Large) n u
-      ≡ pick (not b && lacks_memory u u.setup.costs.int) (after u (WordOr.Refused Fault.OutOfMemory)) (pick (not b && no_slot u) (after u (WordOr.Refused Fault.Full))
-      (after (pick (not b) with_object u) (WordOr.Word (pick (not b) (new_word u) x))))
+  encode-by : (b : Bool) (x : ℕ) → encode_at (pick b (Some (record { 0 = x })) None) n u
+      ≡ pick (not b && lacks_memory u u.setup.costs.int) (after u (Err Fault.OutOfMemory)) (pick (not b && no_slot u) (after u (Err Fault.Full))
+      (after (pick (not b) with_object u) (Ok (pick (not b) (new_word u) x))))
   unfolding pick alloc
   encode-by true x = refl
   encode-by false x = refl
 
   pub encode-is : encode_int n u
-      ≡ pick (is_large n && lacks_memory u u.setup.costs.int) (after u (WordOr.Refused Fault.OutOfMemory)) (pick (is_large n && no_slot u) (after u (WordOr.Refused Fault.Full))
-      (after (pick (is_large n) with_object u) (WordOr.Word (pick (is_large n) (new_word u) (int_word (of_bits 63 n))))))
+      ≡ pick (is_large n && lacks_memory u u.setup.costs.int) (after u (Err Fault.OutOfMemory)) (pick (is_large n && no_slot u) (after u (Err Fault.Full))
+      (after (pick (is_large n) with_object u) (Ok (pick (is_large n) (new_word u) (int_word (of_bits 63 n))))))
   encode-is = encode-by (in_range 47 (of_bits 63 n)) (int_word (of_bits 63 n))
 
-module _ {B : Type 0} (g : World → AutoKey → After B) (n : ℕ) (u : World) where
-  key-by : (r a b : Bool) (s : World) (x : ℕ) (e : After WordOr) → e ≡ pick a (after u (WordOr.Refused Fault.OutOfMemory)) (pick b (after u (WordOr.Refused Fault.Full)) (after s (WordOr.Word x))) →
-      and_then (pick r (and_then e (Exec.key_at n)) (after u (AutoKey.Refused Fault.ArithOverflow))) g
-      ≡ pick (not r) (g u (AutoKey.Refused Fault.ArithOverflow)) (pick a (g u (AutoKey.Refused Fault.OutOfMemory)) (pick b (g u (AutoKey.Refused Fault.Full)) (g s (AutoKey.Key x n))))
+module _ {B : Type 0} (g : World → Result (ℕ × ℕ) Fault → After B) (n : ℕ) (u : World) where
+  key-by : (r a b : Bool) (s : World) (x : ℕ) (e : After (Result ℕ Fault)) → e ≡ pick a (after u (Err Fault.OutOfMemory)) (pick b (after u (Err Fault.Full)) (after s (Ok x))) →
+      and_then (pick r (and_then e (Exec.key_at n)) (after u (Err Fault.ArithOverflow))) g
+      ≡ pick (not r) (g u (Err Fault.ArithOverflow)) (pick a (g u (Err Fault.OutOfMemory)) (pick b (g u (Err Fault.Full)) (g s (Ok (x, n)))))
   unfolding pick
   key-by false a b s x e h = refl
   key-by true true b s x e h = ap (λ y. and_then (and_then y (Exec.key_at n)) g) h
   key-by true false true s x e h = ap (λ y. and_then (and_then y (Exec.key_at n)) g) h
   key-by true false false s x e h = ap (λ y. and_then (and_then y (Exec.key_at n)) g) h
 
-  exact-by : (r : Bool) → Exec.key_exact (pick r (Exact.Fits n) Exact.Over) u ≡ pick r (and_then (encode_int n u) (Exec.key_at n)) (after u (AutoKey.Refused Fault.ArithOverflow))
+  exact-by : (r : Bool) → Exec.key_exact (pick r (Some n) None) u ≡ pick r (and_then (encode_int n u) (Exec.key_at n)) (after u (Err Fault.ArithOverflow))
   unfolding pick
   exact-by true = refl
   exact-by false = refl
 
-  auto-is : (r : Bool) → and_then (Exec.key_exact (pick r (Exact.Fits n) Exact.Over) u) g
-      ≡ pick (not r) (g u (AutoKey.Refused Fault.ArithOverflow)) (pick (is_large n && lacks_memory u u.setup.costs.int) (g u (AutoKey.Refused Fault.OutOfMemory))
-      (pick (is_large n && no_slot u) (g u (AutoKey.Refused Fault.Full)) (g (pick (is_large n) (with_object n u) u) (AutoKey.Key (pick (is_large n) (new_word u) (int_word (of_bits 63 n))) n))))
+  auto-is : (r : Bool) → and_then (Exec.key_exact (pick r (Some n) None) u) g
+      ≡ pick (not r) (g u (Err Fault.ArithOverflow)) (pick (is_large n && lacks_memory u u.setup.costs.int) (g u (Err Fault.OutOfMemory))
+      (pick (is_large n && no_slot u) (g u (Err Fault.Full)) (g (pick (is_large n) (with_object n u) u) (Ok (pick (is_large n) (new_word u) (int_word (of_bits 63 n)), n)))))
   auto-is r =
-      ap (λ (y : After AutoKey). and_then y g) (exact-by r)
+      ap (λ (y : After (Result (ℕ × ℕ) Fault)). and_then y g) (exact-by r)
       ∙ key-by r (is_large n && lacks_memory u u.setup.costs.int) (is_large n && no_slot u) (pick (is_large n) (with_object n u) u) (pick (is_large n) (new_word u) (int_word (of_bits 63 n))) (encode_int n u) (encode-is n u)
 
 yield-by : (cs : List Active) (pc dst src : ℕ) (u : World) → Sane (with_chain cs u) → Exec.yield_on cs pc dst src (with_chain cs u) ≡ leads (Table.yield pc dst src (with_chain cs u))

@@ -1,10 +1,9 @@
 -- 01: "Answers": the word and the Step of every answer, and the part that a look hands back.
-use Rattle.std.specs.Prelude.{ℕ, ◌≡◌, Bool, true, false, not, ◌&&◌, List, [], ◌∷◌, length, drop, eqb, leb}
+use Rattle.std.specs.Prelude.{ℕ, ◌≡◌, Bool, true, false, not, ◌&&◌, List, [], ◌∷◌, length, drop, eqb, leb, Option, Some, None}
 use Rattle.std.proofs.Math.Option.{none, some}
 use Rattle.lists.specs.Pick.{pick}
 use Rattle.heap.specs.Fault as Faults
 use Rattle.heap.specs.declared.fault.Fault.{Fault}
-use Rattle.heap.specs.declared.value.Opt.{Opt}
 use Rattle.model.specs.Lists.{among}
 use Rattle.model.specs.Program.{Setup}
 use Rattle.model.specs.Object.{Object}
@@ -15,7 +14,6 @@ use Rattle.model.specs.Call.{Call, SetUp, Do, Operation, typed, as_call}
 use Rattle.model.specs.Step.{step}
 use Rattle.model.specs.declared.machine.Cont.{Cont}
 use Rattle.model.specs.declared.machine.Frame.{Frame}
-use Rattle.model.specs.declared.machine.Outcome.{Outcome}
 use Rattle.model.specs.declared.machine.Stop.{Stop}
 use Rattle.model.specs.declared.exec.Step.{Step}
 use Rattle.model.specs.declared.call.Op.{Op}
@@ -29,7 +27,7 @@ use Rattle.claims_sheet.specs.Endings.{result, or_nil}
 -- ---- words
 
 -- finish exits with its word where an Entry frame is on top, or none
-abbrev pub exit_by : Cont → Opt → ℕ
+abbrev pub exit_by : Cont → Option ℕ → ℕ
 exit_by Cont.Entry v = or_nil v
 exit_by (Cont.Write r) v = 0
 exit_by (Cont.Dyn r) v = 0
@@ -37,18 +35,18 @@ exit_by (Cont.Value r) v = 0
 exit_by Cont.Discard v = 0
 exit_by Cont.Coro v = 0
 
-abbrev pub exit_word : List Frame → Opt → ℕ
+abbrev pub exit_word : List Frame → Option ℕ → ℕ
 exit_word [] v = or_nil v
 exit_word (f ∷ fs) v = exit_by f.cont v
 
 -- an outcome's word: a failure's is what was thrown, or the error object
-abbrev pub outcome_word : Outcome → ℕ
-outcome_word Outcome.None = 0
-outcome_word (Outcome.Some (Stop.Yielded v)) = v
-outcome_word (Outcome.Some (Stop.Awaiting v)) = v
-outcome_word (Outcome.Some (Stop.Returned v)) = v
-outcome_word (Outcome.Some (Stop.Failed v f pc)) = v
-outcome_word (Outcome.Some Stop.CloseIgnored) = 0
+abbrev pub outcome_word : Option Stop → ℕ
+outcome_word None = 0
+outcome_word (Some (Stop.Yielded v)) = v
+outcome_word (Some (Stop.Awaiting v)) = v
+outcome_word (Some (Stop.Returned v)) = v
+outcome_word (Some (Stop.Failed v f pc)) = v
+outcome_word (Some Stop.CloseIgnored) = 0
 
 -- "an accepted call with no word of its own answers 0"; "make iterator and `spawn_task` answer their object's word"
 abbrev pub word_for : Op → World → ℕ
@@ -164,7 +162,7 @@ pub record Answers : Type 0 where
   pub set-up-word : (w : World) (s : Setup) → word_of (step w (SetUp s)).answer ≡ 0
   -- the word that make iterator answers finds its iterator: "over a coroutine, not done, no key"
   pub iterator : (w : World) (v : ℕ) (t : typed (Op.MakeIterator v) ≡ true) → let o = operation (Op.MakeIterator v) t in
-      number w o ≡ 0 → found (step w (Do o)).world (word_of (step w (Do o)).answer) ≡ Object.Iter v false Opt.None
+      number w o ≡ 0 → found (step w (Do o)).world (word_of (step w (Do o)).answer) ≡ Object.Iter v false None
   -- 17's word
   pub thrown-word : (w : World) (o : Operation) → number w o ≡ 17 → word_of (step w (Do o)).answer ≡ thrown_for o.op w
   -- 11 to 13, 15 and 16 have no Step, nor has a call that is no instruction

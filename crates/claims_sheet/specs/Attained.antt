@@ -1,13 +1,11 @@
 -- No line of the table is dead: for each call, machines at which it stops at each of its lines, one after the other, by computation.
 -- All but one are reached by calls from a set-up.
-use Rattle.std.specs.Prelude.{ℕ, zero, suc, ◌-◌, ◌^◌, ◌≡◌, List, [], ◌∷◌, length}
+use Rattle.std.specs.Prelude.{ℕ, zero, suc, ◌-◌, ◌^◌, ◌≡◌, List, [], ◌∷◌, length, Some, None}
 use Rattle.lists.specs.Pick.{pick}
 use Rattle.heap.specs.declared.fault.Fault.{Fault}
 use Rattle.heap.specs.declared.heap.ResultKind.{ResultKind}
-use Rattle.heap.specs.declared.value.Opt.{Opt}
 use Rattle.model.specs.World.{World}
 use Rattle.model.specs.declared.machine.Cont.{Cont}
-use Rattle.model.specs.declared.call.OptPc.{OptPc}
 use Rattle.model.specs.declared.call.Op.{Op}
 use Rattle.model.specs.declared.call.Answer.{Answer}
 use Rattle.claims_sheet.specs.Lines.{Line}
@@ -33,20 +31,20 @@ lines_from k w o = count_up k (suc (length (sheet o w).tests) - k)
 
 pub record Attained : Type 0 where
   -- 11, 12, 13, 10, a cleanup; these five stand before the lines of every instruction
-  pub gate : passed (reached (small 0 8 4096 Opt.None) []) (Op.CoroCurrent 1 0) ∷ passed (run []) (Op.CoroCurrent 1 0) ∷ passed (run (begun 9 [])) (Op.CoroCurrent 1 6) ∷ passed (run (begun 0 [])) (Op.CoroCurrent 1 0)
+  pub gate : passed (reached (small 0 8 4096 None) []) (Op.CoroCurrent 1 0) ∷ passed (run []) (Op.CoroCurrent 1 0) ∷ passed (run (begun 9 [])) (Op.CoroCurrent 1 6) ∷ passed (run (begun 0 [])) (Op.CoroCurrent 1 0)
       ∷ passed (run (yielded 1 (Op.HandOver c ∷ []))) (Op.CoroCurrent 4 0) ∷ passed (run (begun 9 [])) (Op.CoroCurrent 1 0) ∷ [] ≡ lines_from 0 (run []) (Op.CoroCurrent 1 0)
   -- 9, 14, 9
   pub coro-new : passed (little_memory 151 (begun 9 [])) (Op.CoroNew 1 0 1 0) ∷ passed (few_slots 4 (begun 9 [])) (Op.CoroNew 1 0 1 0) ∷ passed (little_memory 207 (begun 9 [])) (Op.CoroNew 1 0 1 0) ∷ passed (run (begun 9 [])) (Op.CoroNew 1 0 1 0) ∷ []
       ≡ lines_from 5 (run []) (Op.CoroNew 1 0 1 0)
-  pub rows_taken : passed (reached (small 1 8 4096 Opt.None) (holding 1 [])) (Op.CoroNew 2 1 1 0) ≡ 6
+  pub rows_taken : passed (reached (small 1 8 4096 None) (holding 1 [])) (Op.CoroNew 2 1 1 0) ≡ 6
   -- 1, 2, 2, 2, 9, 14, 9
   pub coro-new-indirect : passed (run (begun 9 [])) (Op.CoroNewIndirect 1 0 0 0) ∷ passed (run (holding 1 [])) (Op.CoroNewIndirect 1 0 0 0) ∷ passed (nameless (run holding_function)) (Op.CoroNewIndirect 1 0 0 0)
       ∷ passed (run holding_function) (Op.CoroNewIndirect 1 0 0 3) ∷ passed (little_memory 143 holding_function) (Op.CoroNewIndirect 1 0 0 0) ∷ passed (few_slots 4 holding_function) (Op.CoroNewIndirect 1 0 0 0) ∷ passed (little_memory 199 holding_function) (Op.CoroNewIndirect 1 0 0 0)
       ∷ passed (run holding_function) (Op.CoroNewIndirect 1 0 0 0) ∷ [] ≡ lines_from 5 (run []) (Op.CoroNewIndirect 1 0 0 0)
   -- 8, 1, 2, 2, 2, 9, 14, 9, 10, 4
   pub spawn : passed (run holding_function) (Op.Spawn 1 0 0 0) ∷ passed (hooked 0 (begun 9 [])) (Op.Spawn 1 0 0 0) ∷ passed (hooked 0 (holding 1 [])) (Op.Spawn 1 0 0 0) ∷ passed (nameless (hooked 0 holding_function)) (Op.Spawn 1 0 0 0)
-      ∷ passed (hooked 0 holding_function) (Op.Spawn 1 0 0 3) ∷ passed (reached (small 2 8 143 (Opt.Some 0)) holding_function) (Op.Spawn 1 0 0 0) ∷ passed (reached (small 2 4 4096 (Opt.Some 0)) holding_function) (Op.Spawn 1 0 0 0)
-      ∷ passed (reached (small 2 8 199 (Opt.Some 0)) holding_function) (Op.Spawn 1 0 0 0) ∷ passed (hooked 0 (begun 1 (Op.PutWord 0 f0 ∷ []))) (Op.Spawn 1 0 0 0) ∷ passed (hooked 2 holding_function) (Op.Spawn 1 0 0 0)
+      ∷ passed (hooked 0 holding_function) (Op.Spawn 1 0 0 3) ∷ passed (reached (small 2 8 143 (Some 0)) holding_function) (Op.Spawn 1 0 0 0) ∷ passed (reached (small 2 4 4096 (Some 0)) holding_function) (Op.Spawn 1 0 0 0)
+      ∷ passed (reached (small 2 8 199 (Some 0)) holding_function) (Op.Spawn 1 0 0 0) ∷ passed (hooked 0 (begun 1 (Op.PutWord 0 f0 ∷ []))) (Op.Spawn 1 0 0 0) ∷ passed (hooked 2 holding_function) (Op.Spawn 1 0 0 0)
       ∷ passed (hooked 0 holding_function) (Op.Spawn 1 0 0 0) ∷ [] ≡ lines_from 5 (run []) (Op.Spawn 1 0 0 0)
   -- 5, 7, 9, 14, 9, 6
   pub yield : passed (run (begun 9 [])) (Op.Yield 8 0 0) ∷ passed (run (given_key (2 ^ 63 - 1))) (Op.Yield 8 0 0) ∷ passed (little_memory 300 (given_key (2 ^ 47))) (Op.Yield 8 0 0) ∷ passed (few_slots 6 (given_key (2 ^ 47))) (Op.Yield 8 0 0)
@@ -80,7 +78,7 @@ pub record Attained : Type 0 where
   pub finish-body : passed (run (running 1 [])) (Op.Finish ResultKind.U64 (2 ^ 63)) ∷ passed (little_memory 208 (running 1 [])) (Op.Finish ResultKind.I64 (2 ^ 47)) ∷ passed (few_slots 5 (running 1 [])) (Op.Finish ResultKind.I64 (2 ^ 47))
       ∷ passed (run (running 1 [])) (Op.Finish ResultKind.Dyn 7) ∷ [] ≡ lines_from 1 (run (running 1 [])) (Op.Finish ResultKind.I64 0)
   -- 11, a 9 that passes, 9, 14; in the top frame 10, caught, 17 out of the host's, its own signal, a failure to the host; then the next frame's
-  pub unwind : passed (run []) (Op.Unwind Fault.Full OptPc.None) ∷ passed (run []) (Op.Unwind Fault.OutOfMemory OptPc.None) ∷ passed (little_memory 55 (begun 9 [])) (Op.Unwind Fault.TypeError OptPc.None) ∷ passed (few_slots 4 (begun 9 [])) (Op.Unwind Fault.TypeError OptPc.None)
+  pub unwind : passed (run []) (Op.Unwind Fault.Full None) ∷ passed (run []) (Op.Unwind Fault.OutOfMemory None) ∷ passed (little_memory 55 (begun 9 [])) (Op.Unwind Fault.TypeError None) ∷ passed (few_slots 4 (begun 9 [])) (Op.Unwind Fault.TypeError None)
       ∷ passed (run (Op.HostCall 3 ∷ [])) throws_nil ∷ passed (run (Op.Grant 9 ∷ Op.HostCall 3 ∷ [])) throws_nil ∷ passed (run (begun 9 [])) throws_nil ∷ passed (run closed) throws_nil ∷ passed (run (holding 1 (Op.StopRun ∷ Op.HostEntry c 0 ∷ []))) throws_nil ∷ []
       ≡ count_up 1 9
   pub unwind-on : passed (run (running 1 [])) throws_nil ∷ passed (run []) throws_nil ∷ [] ≡ 12 ∷ 5 ∷ []

@@ -1,8 +1,7 @@
 -- THE SHEET of the gate and the charge. 01: "Order: 11, 12, 13, then `exec::charge` (10), then the instruction's own tests".
-use Rattle.std.specs.Prelude.{ℕ, suc, ◌-◌, Bool, true, false, not, ◌&&◌, List, [], ◌∷◌, map, get_or, drop, eqb}
+use Rattle.std.specs.Prelude.{ℕ, suc, ◌-◌, Bool, true, false, not, ◌&&◌, List, [], ◌∷◌, map, get_or, drop, eqb, Option, Some, None}
 use Rattle.lists.specs.Pick.{pick}
 use Rattle.heap.specs.declared.fault.Fault.{Fault}
-use Rattle.heap.specs.declared.value.Opt.{Opt}
 use Rattle.model.specs.Lists.{is_nil}
 use Rattle.model.specs.World.{World}
 use Rattle.model.specs.declared.machine.Driver.{Driver}
@@ -16,14 +15,14 @@ use Rattle.claims_sheet.specs.Moves.{pc_stored, entered_closing}
 -- ---- the fuel
 
 -- the bank's amount, if there is one, else the fuel
-abbrev pub amount : Opt → ℕ → ℕ
-amount Opt.None n = n
-amount (Opt.Some b) n = b
+abbrev pub amount : Option ℕ → ℕ → ℕ
+amount None n = n
+amount (Some b) n = b
 
 abbrev pub reserve : World → ℕ
 reserve w = amount w.fuel.bank w.fuel.fuel
 
-abbrev pub fuelled : ℕ → Opt → Bool → World → World
+abbrev pub fuelled : ℕ → Option ℕ → Bool → World → World
 fuelled n bank ready w = with_fuel (record { fuel = n; bank = bank; ready = ready }) w
 
 -- 10: "bank and fuel both used up"
@@ -32,7 +31,7 @@ used_up w = eqb w.fuel.fuel 0 && eqb (reserve w) 0
 
 -- the bank is taken back
 abbrev pub bank_back : World → World
-bank_back w = fuelled (reserve w) Opt.None w.fuel.ready w
+bank_back w = fuelled (reserve w) None w.fuel.ready w
 
 -- ---- the search for a cleanup: "fuel, a pc and cleanups ready", and the fuel in hand used up
 
@@ -58,7 +57,7 @@ abbrev pub cleanup : ℕ → World → World
 cleanup pc w =
     let z = pc_stored pc w in
     let queue = queue_from z w.finalize in
-    fuelled (reserve w) Opt.None false (with_finalizing true (entered_closing 0 (get_or queue 0 0) Driver.Finalize (with_finalize (drop 1 queue) z)))
+    fuelled (reserve w) None false (with_finalizing true (entered_closing 0 (get_or queue 0 0) Driver.Finalize (with_finalize (drop 1 queue) z)))
 
 -- the charge starts one
 abbrev pub starts : ℕ → World → Bool
@@ -69,8 +68,8 @@ starts pc w = searches w && not (is_nil (queue_from (pc_stored pc w) w.finalize)
 abbrev pub charged : ℕ → World → World
 charged pc w =
     pick (not (eqb w.fuel.fuel 0)) (fuelled (w.fuel.fuel - 1) w.fuel.bank w.fuel.ready w)
-    (pick (not w.fuel.ready) (fuelled (reserve w - 1) Opt.None false w)
-    (fuelled (reserve w - 1) Opt.None false (with_finalizing false (with_finalize [] (pc_stored pc w)))))
+    (pick (not w.fuel.ready) (fuelled (reserve w - 1) None false w)
+    (fuelled (reserve w - 1) None false (with_finalizing false (with_finalize [] (pc_stored pc w)))))
 
 -- the queue words that it took off
 abbrev pub lost : ℕ → World → ℕ

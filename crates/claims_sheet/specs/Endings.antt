@@ -1,9 +1,8 @@
 -- THE SHEET of `finish`, by the top frame's continuation, and of `unwind`, frame by frame.
-use Rattle.std.specs.Prelude.{ℕ, ◌^◌, Bool, true, false, ◌&&◌, List, [], ◌∷◌, take, leb}
+use Rattle.std.specs.Prelude.{ℕ, ◌^◌, Bool, true, false, ◌&&◌, List, [], ◌∷◌, take, leb, Option, Some, None}
 use Rattle.lists.specs.Pick.{pick}
 use Rattle.heap.specs.Coding.{of_bits}
 use Rattle.heap.specs.Word.{int_word}
-use Rattle.heap.specs.declared.value.Opt.{Opt}
 use Rattle.heap.specs.declared.heap.ResultKind.{ResultKind}
 use Rattle.heap.specs.declared.object.CoroState.{CoroState}
 use Rattle.model.specs.Object.{Object}
@@ -12,7 +11,6 @@ use Rattle.model.specs.declared.machine.Active.{Active}
 use Rattle.model.specs.declared.machine.Cont.{Cont}
 use Rattle.model.specs.declared.machine.Driver.{Driver}
 use Rattle.model.specs.declared.machine.Frame.{Frame}
-use Rattle.model.specs.declared.machine.Outcome.{Outcome}
 use Rattle.model.specs.declared.machine.Stop.{Stop}
 use Rattle.model.specs.declared.call.Answer.{Answer}
 use Rattle.claims_sheet.specs.Setters.{with_stack, with_frames, with_chain, with_outcome}
@@ -29,11 +27,11 @@ popped f fs w = with_frames fs (with_stack (take f.base w.stack) w)
 
 -- ---- results: "none, dynamic word, i64, u64"
 
-abbrev pub result : ResultKind → ℕ → Opt
-result ResultKind.None v = Opt.None
-result ResultKind.Dyn v = Opt.Some v
-result ResultKind.I64 v = Opt.Some v
-result ResultKind.U64 v = Opt.Some v
+abbrev pub result : ResultKind → ℕ → Option ℕ
+result ResultKind.None v = None
+result ResultKind.Dyn v = Some v
+result ResultKind.I64 v = Some v
+result ResultKind.U64 v = Some v
 
 -- 7: "A u64 above 2^63 - 1 gives 7."
 abbrev pub too_large : ResultKind → ℕ → Bool
@@ -66,7 +64,7 @@ conversion k v w = refuse 7 (too_large k v) w ∷ refuse 9 (is_object k v && lac
 abbrev pub handed_back : Driver → ℕ → World → World
 handed_back (Driver.Resume dst) v w = sent dst v w
 handed_back (Driver.Iter has val iter) v w = sent has 0 (iterator_done iter w)
-handed_back Driver.Host v w = with_outcome (Outcome.Some (Stop.Returned v)) w
+handed_back Driver.Host v w = with_outcome (Some (Stop.Returned v)) w
 handed_back Driver.Finalize v w = cleaning false w
 
 -- the innermost one has finished
@@ -83,13 +81,13 @@ returned (a ∷ chain) v w = handed_back a.driver v (innermost_finished (a ∷ c
 abbrev pub stepped : World → World
 stepped w = with_frames (onward w.frames) w
 
-abbrev pub written : ℕ → Opt → World → World
-written r Opt.None w = w
-written r (Opt.Some v) w = put r v w
+abbrev pub written : ℕ → Option ℕ → World → World
+written r None w = w
+written r (Some v) w = put r v w
 
-abbrev pub or_nil : Opt → ℕ
-or_nil Opt.None = 0
-or_nil (Opt.Some v) = v
+abbrev pub or_nil : Option ℕ → ℕ
+or_nil None = 0
+or_nil (Some v) = v
 
 abbrev pub finish_by : Cont → Frame → List Frame → ResultKind → ℕ → World → Lines Answer
 finish_by Cont.Entry f fs k v w = lines [] (accept true (Answer.Exit (result k v)) (popped f fs w))

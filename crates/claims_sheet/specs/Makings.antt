@@ -1,8 +1,7 @@
 -- THE SHEET of the instructions that make a coroutine: CoroNew, CoroNewIndirect, Spawn. The charge left u.
-use Rattle.std.specs.Prelude.{ℕ, zero, suc, ◌+◌, ◌-◌, ◌*◌, ◌%◌, ◌^◌, Bool, true, false, not, ◌&&◌, ◌||◌, List, [], ◌∷◌, ◌++◌, length, get_or, replicate, set, eqb, ltb, leb}
+use Rattle.std.specs.Prelude.{ℕ, zero, suc, ◌+◌, ◌-◌, ◌*◌, ◌%◌, ◌^◌, Bool, true, false, not, ◌&&◌, ◌||◌, List, [], ◌∷◌, ◌++◌, length, get_or, replicate, set, eqb, ltb, leb, Option, Some, None}
 use Rattle.lists.specs.Pick.{pick}
 use Rattle.heap.specs.Table.{Slot, slot}
-use Rattle.heap.specs.declared.value.Opt.{Opt}
 use Rattle.heap.specs.declared.object.CoroState.{CoroState}
 use Rattle.model.specs.Program.{Func, no_func}
 use Rattle.model.specs.Object.{Core, Rest, Object}
@@ -105,15 +104,15 @@ coro_new_indirect dst c argc u =
 
 -- ---- Spawn: the hook is called with the coroutine; the call is charged once more, and starts no cleanup
 
-abbrev pub is_none : Opt → Bool
-is_none Opt.None = true
-is_none (Opt.Some n) = false
+abbrev pub is_none : Option ℕ → Bool
+is_none None = true
+is_none (Some n) = false
 
 -- one unit less; "While a close is ready, the fuel left is set aside"
 abbrev pub paid : World → World
 paid w =
     pick (not (eqb w.fuel.fuel 0)) (fuelled (w.fuel.fuel - 1) w.fuel.bank w.fuel.ready w)
-    (pick w.fuel.ready (fuelled 0 (Opt.Some (reserve w - 1)) w.fuel.ready w) (fuelled (reserve w - 1) Opt.None w.fuel.ready w))
+    (pick w.fuel.ready (fuelled 0 (Some (reserve w - 1)) w.fuel.ready w) (fuelled (reserve w - 1) None w.fuel.ready w))
 
 -- 4: a frame more passes the depth limit, or its registers the stack limit
 abbrev pub no_room : ℕ → World → Bool
@@ -128,7 +127,7 @@ abbrev pub called : ℕ → ℕ → ℕ → World → World
 called hook dst c w = with_stack (set (pushed hook (Cont.Value dst) w).stack (length w.stack) c) (pushed hook (Cont.Value dst) w)
 
 -- pc is stored only if accepted
-abbrev pub spawn_with : Opt → ℕ → ℕ → ℕ → ℕ → World → Lines Step
+abbrev pub spawn_with : Option ℕ → ℕ → ℕ → ℕ → ℕ → World → Lines Step
 spawn_with hook pc dst c argc u =
     let v = word u c in
     let h = amount hook 0 in

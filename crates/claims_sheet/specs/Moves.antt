@@ -1,8 +1,7 @@
 -- The sheet's own words: what is done to a world. None of them is the machine's.
-use Rattle.std.specs.Prelude.{ℕ, ◌+◌, ◌%◌, ◌^◌, max, Bool, true, false, List, [], ◌∷◌, ◌++◌, map, length, get_or, set, eqb}
+use Rattle.std.specs.Prelude.{ℕ, ◌+◌, ◌%◌, ◌^◌, max, Bool, true, false, List, [], ◌∷◌, ◌++◌, map, length, get_or, set, eqb, Option}
 use Rattle.lists.specs.Pick.{pick}
 use Rattle.heap.specs.Table.{slot}
-use Rattle.heap.specs.declared.value.Opt.{Opt}
 use Rattle.heap.specs.declared.object.CoroState.{CoroState}
 use Rattle.model.specs.Object.{Core, Rest, Object}
 use Rattle.model.specs.World.{World}
@@ -43,7 +42,7 @@ abbrev pub replaced : ℕ → Object → World → World
 replaced v o w = with_slots (set w.slots (v % 2 ^ 32) (slot (get_or w.slots (v % 2 ^ 32) (slot 0 Object.Empty)).tag o)) w
 
 -- an iterator's mark and key, if v finds one
-abbrev pub iterator : (Bool → Bool) → (Opt → Opt) → Object → Object
+abbrev pub iterator : (Bool → Bool) → ((Option ℕ) → Option ℕ) → Object → Object
 iterator f g Object.Empty = Object.Empty
 iterator f g (Object.Func n) = Object.Func n
 iterator f g (Object.Int n) = Object.Int n
@@ -51,7 +50,7 @@ iterator f g (Object.Iter s d k) = Object.Iter s (f d) (g k)
 iterator f g (Object.Error e n p x) = Object.Error e n p x
 iterator f g (Object.Coro k r) = Object.Coro k r
 
-abbrev pub marked : ℕ → (Bool → Bool) → (Opt → Opt) → World → World
+abbrev pub marked : ℕ → (Bool → Bool) → ((Option ℕ) → Option ℕ) → World → World
 marked v f g w = pick (eqb (kind (found w v)) 3) (replaced v (iterator f g (found w v)) w) w
 
 abbrev pub iterator_done : ℕ → World → World

@@ -1,8 +1,7 @@
 -- THE SHEET of `spawn_task` and the added calls. 01: "Each tests 11 first, then 12 or 15, then 13 or 16, then what its Rust
 -- function tests."
-use Rattle.std.specs.Prelude.{ℕ, ◌+◌, ◌^◌, Bool, true, false, not, ◌&&◌, ◌||◌, List, [], ◌∷◌, ◌++◌, drop, leb}
+use Rattle.std.specs.Prelude.{ℕ, ◌+◌, ◌^◌, Bool, true, false, not, ◌&&◌, ◌||◌, List, [], ◌∷◌, ◌++◌, drop, leb, Option, Some, None}
 use Rattle.lists.specs.Pick.{pick}
-use Rattle.heap.specs.declared.value.Opt.{Opt}
 use Rattle.heap.specs.declared.object.CoroState.{CoroState}
 use Rattle.model.specs.Lists.{is_nil}
 use Rattle.model.specs.Object.{Object}
@@ -11,7 +10,6 @@ use Rattle.model.specs.declared.machine.Active.{Active}
 use Rattle.model.specs.declared.machine.Cont.{Cont}
 use Rattle.model.specs.declared.machine.Driver.{Driver}
 use Rattle.model.specs.declared.machine.Frame.{Frame}
-use Rattle.model.specs.declared.machine.Outcome.{Outcome}
 use Rattle.model.specs.declared.call.Answer.{Answer}
 use Rattle.claims_sheet.specs.Setters.{with_task, with_finalized, with_stack, with_frames, with_chain, with_ready, with_finalize, with_outcome}
 use Rattle.claims_sheet.specs.Lines.{Lines, lines, refuse, accept}
@@ -63,11 +61,11 @@ abbrev pub make_iterator : ℕ → World → Lines Answer
 make_iterator v w =
     let bytes = w.setup.costs.iter in
     lines (refuse 1 (dead w v) w ∷ refuse 2 (no_coroutine w v) w ∷ refuse 9 (lacks_memory w bytes) w ∷ refuse 14 (no_slot w) w ∷ [])
-    (accept true (Answer.Word (new_word w)) (stored (Object.Iter v false Opt.None) bytes w))
+    (accept true (Answer.Word (new_word w)) (stored (Object.Iter v false None) bytes w))
 
 -- "Take outcome: reads and clears it, or answers none."
 abbrev pub take_outcome : World → Lines Answer
-take_outcome w = lines [] (accept true (Answer.Took w.outcome) (with_outcome Outcome.None w))
+take_outcome w = lines [] (accept true (Answer.Took w.outcome) (with_outcome None w))
 
 -- "Hand over: a Yielded or Awaiting coroutine not handed over before joins the cleanup queue and is marked finalized, then
 -- `set_finalizing` with the present value"
@@ -78,9 +76,9 @@ hand_over v w =
     (accept true Answer.Accepted (cleaning w.finalizing (replaced v (Object.Coro (core_of (found w v)) (with_finalized true r)) (with_finalize (w.finalize ++ (v ∷ [])) w))))
 
 -- "Grant: adds to the bank if there is one, else to fuel."
-abbrev pub granted : Opt → ℕ → World → World
-granted Opt.None n w = fuelled n w.fuel.bank w.fuel.ready w
-granted (Opt.Some b) n w = fuelled w.fuel.fuel (Opt.Some n) w.fuel.ready w
+abbrev pub granted : Option ℕ → ℕ → World → World
+granted None n w = fuelled n w.fuel.bank w.fuel.ready w
+granted (Some b) n w = fuelled w.fuel.fuel (Some n) w.fuel.ready w
 
 abbrev pub grant : ℕ → World → Lines Answer
 grant n w = lines (refuse 16 (leb (2 ^ 64) (reserve w + n)) w ∷ []) (accept true Answer.Accepted (granted w.fuel.bank (reserve w + n) w))
@@ -91,7 +89,7 @@ stopped [] w = w
 stopped (a ∷ chain) w = stopped chain (finished_with a.coro CoroState.Failed 0 w)
 
 abbrev pub stop_run : World → Lines Answer
-stop_run w = lines [] (accept true Answer.Accepted (with_stack [] (with_frames [] (with_outcome Outcome.None (cleaning false (with_chain [] (stopped w.chain w)))))))
+stop_run w = lines [] (accept true Answer.Accepted (with_stack [] (with_frames [] (with_outcome None (cleaning false (with_chain [] (stopped w.chain w)))))))
 
 abbrev pub look : World → Lines Answer
 look w = lines [] (accept true Answer.Accepted w)

@@ -1,7 +1,6 @@
 -- PEP 342: deletion, which is a hand over by the host and a close at a later charge. The table of PEP 342's sentences is docs/rules/PEP342.md.
-use Rattle.std.specs.Prelude.{ℕ, ◌≡◌, Bool, true, false, not, ◌||◌, List, [], ◌∷◌, ◌++◌}
+use Rattle.std.specs.Prelude.{ℕ, ◌≡◌, Bool, true, false, not, ◌||◌, List, [], ◌∷◌, ◌++◌, None}
 use Rattle.heap.specs.declared.fault.Fault.{Fault}
-use Rattle.heap.specs.declared.value.Opt.{Opt}
 use Rattle.model.specs.Lists.{is_nil}
 use Rattle.model.specs.Object.{Object}
 use Rattle.model.specs.World.{World, after}
@@ -33,4 +32,4 @@ pub record Deletion : Type 0 where
   pub cleanup-starts : (w : World) (o : Operation) (pc : ℕ) (ok : Bool) (own : World → Lines Step) (c : ℕ) (queue : List ℕ) → table_of o.op w ≡ instruction pc ok own w →
       sound w ≡ true → is_nil w.frames ≡ false → ok ≡ true → used_up w ≡ false → searches w ≡ true → queue_from (pc_stored pc w) w.finalize ≡ c ∷ queue →
       does w o
-      ≡ after (fuelled (reserve w) Opt.None false (with_finalizing true (entered_closing 0 c Driver.Finalize (with_finalize queue (pc_stored pc w))))) (Answer.Cleanup (taken (pc_stored pc w) w.finalize))
+      ≡ after (fuelled (reserve w) None false (with_finalizing true (entered_closing 0 c Driver.Finalize (with_finalize queue (pc_stored pc w))))) (Answer.Cleanup (taken (pc_stored pc w) w.finalize))

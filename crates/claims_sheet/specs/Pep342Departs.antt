@@ -1,8 +1,7 @@
 -- PEP 342: what this machine does otherwise, over more than one call. The table of departures is docs/rules/PEP342.md.
-use Rattle.std.specs.Prelude.{ℕ, ◌-◌, ◌≡◌, Bool, true, false, ◌&&◌, List, [], ◌∷◌, ◌++◌, drop}
+use Rattle.std.specs.Prelude.{ℕ, ◌-◌, ◌≡◌, Bool, true, false, ◌&&◌, List, [], ◌∷◌, ◌++◌, drop, Option, None}
 use Rattle.heap.specs.declared.fault.Fault.{Fault}
 use Rattle.heap.specs.declared.object.CoroState.{CoroState}
-use Rattle.heap.specs.declared.value.Opt.{Opt}
 use Rattle.model.specs.Lists.{is_nil, among}
 use Rattle.model.specs.World.{World, after}
 use Rattle.model.specs.Sound.{sound}
@@ -12,7 +11,6 @@ use Rattle.model.specs.declared.machine.Cont.{Cont}
 use Rattle.model.specs.declared.machine.Driver.{Driver}
 use Rattle.model.specs.declared.machine.Frame.{Frame}
 use Rattle.model.specs.declared.exec.Step.{Step}
-use Rattle.model.specs.declared.call.OptPc.{OptPc}
 use Rattle.model.specs.declared.call.Op.{Op}
 use Rattle.model.specs.declared.call.Answer.{Answer}
 use Rattle.claims_sheet.specs.Setters.{with_chain}
@@ -38,7 +36,7 @@ pub record Later : Type 0 where
 
 pub record Escaped : Type 0 where
   -- where it then lets the signal escape, who resumed it last gets nil and a step
-  pub signal-later : (e : Fault) (pc : OptPc) (w : World) (t : typed (Op.Unwind e pc) ≡ true) (above : List Frame) (x : Frame) (xs : List Frame) (u : World) → Comes e pc w above x xs u →
+  pub signal-later : (e : Fault) (pc : Option ℕ) (w : World) (t : typed (Op.Unwind e pc) ≡ true) (above : List Frame) (x : Frame) (xs : List Frame) (u : World) → Comes e pc w above x xs u →
       (a : Active) (chain : List Active) (dst : ℕ) → is_nil (takers x u) ≡ true → x.cont ≡ Cont.Coro → u.chain ≡ a ∷ chain → a.driver ≡ Driver.Resume dst → own_signal u.chain (thrown e pc w) u ≡ true →
       does w (operation (Op.Unwind e pc) t) ≡ after (sent dst 0 (finished_with a.coro CoroState.Returned 0 (with_chain chain (popped x xs u)))) Answer.Stopped
 
@@ -62,4 +60,4 @@ pub record Missed : Type 0 where
   pub spent : (w : World) (o : Operation) (pc : ℕ) (ok : Bool) (own : World → Lines Step) → table_of o.op w ≡ instruction pc ok own w →
       sound w ≡ true → is_nil w.frames ≡ false → ok ≡ true → used_up w ≡ true → does w o ≡ after (bank_back w) (Answer.Stepped (Step.Fault Fault.OutOfFuel) 0)
   -- .. and without a bank a charge takes a unit, and neither starts a cleanup nor touches the queue
-  pub unarmed : (w : World) (pc : ℕ) → w.fuel.bank ≡ Opt.None → used_up w ≡ false → (starts pc w ≡ false) × (charged pc w ≡ fuelled (w.fuel.fuel - 1) Opt.None w.fuel.ready w)
+  pub unarmed : (w : World) (pc : ℕ) → w.fuel.bank ≡ None → used_up w ≡ false → (starts pc w ≡ false) × (charged pc w ≡ fuelled (w.fuel.fuel - 1) None w.fuel.ready w)

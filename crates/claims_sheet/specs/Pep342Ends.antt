@@ -1,6 +1,6 @@
 -- PEP 342: a word that is raised, from the top frame down: caught, or let out of a coroutine, or uncaught. The table of sentences is
 -- docs/rules/PEP342.md.
-use Rattle.std.specs.Prelude.{ℕ, ◌+◌, ◌≡◌, Bool, true, false, not, ◌&&◌, ◌||◌, List, [], ◌∷◌, ◌++◌, eqb, ltb, leb}
+use Rattle.std.specs.Prelude.{ℕ, ◌+◌, ◌≡◌, Bool, true, false, not, ◌&&◌, ◌||◌, List, [], ◌∷◌, ◌++◌, eqb, ltb, leb, Option}
 use Rattle.lists.specs.Pick.{pick}
 use Rattle.heap.specs.Fault.{number_of, word_of}
 use Rattle.heap.specs.declared.fault.Fault.{Fault}
@@ -11,7 +11,6 @@ use Rattle.model.specs.Call.{typed}
 use Rattle.model.specs.declared.program.Handler.{Handler}
 use Rattle.model.specs.declared.machine.Cont.{Cont}
 use Rattle.model.specs.declared.machine.Frame.{Frame}
-use Rattle.model.specs.declared.call.OptPc.{OptPc}
 use Rattle.model.specs.declared.call.Op.{Op}
 use Rattle.model.specs.declared.call.Answer.{Answer}
 use Rattle.claims_sheet.specs.Does.{does, operation}
@@ -24,16 +23,16 @@ use Rattle.claims_sheet.specs.Unwinding.{covering, takers, is_entry, is_body, ow
 
 -- ---- what is raised: 17's word, or the error object of 1 to 8
 
-abbrev pub raises : Fault → OptPc → World → Bool
+abbrev pub raises : Fault → Option ℕ → World → Bool
 raises e pc w =
     let n = number_of e in
     let z = given_pc_stored pc w in
     sound w && (eqb n 17 || leb 1 n && (leb n 8 && (not (lacks_memory z z.setup.costs.error) && not (no_slot z))))
 
-abbrev pub thrown : Fault → OptPc → World → ℕ
+abbrev pub thrown : Fault → Option ℕ → World → ℕ
 thrown e pc w = pick (leb (number_of e) 8) (new_word (given_pc_stored pc w)) (word_of e)
 
-abbrev pub risen : Fault → OptPc → World → World
+abbrev pub risen : Fault → Option ℕ → World → World
 risen e pc w = pick (leb (number_of e) 8) (error_stored (number_of e) (given_pc_stored pc w)) (given_pc_stored pc w)
 
 -- ---- the frames that it leaves: nothing catches there, and it is neither the host's nor the body of a coroutine that stops it
@@ -51,7 +50,7 @@ arrived [] below value w = w
 arrived (x ∷ above) below value w = arrived above below value (left x (above ++ below) value w)
 
 -- a word is raised, leaves the frames `above`, and comes to frame x over xs in the world u
-pub record Comes (e : Fault) (pc : OptPc) (w : World) (above : List Frame) (x : Frame) (xs : List Frame) (u : World) : Type 0 where
+pub record Comes (e : Fault) (pc : Option ℕ) (w : World) (above : List Frame) (x : Frame) (xs : List Frame) (u : World) : Type 0 where
   pub raised : raises e pc w ≡ true
   pub frames : (risen e pc w).frames ≡ above ++ (x ∷ xs)
   pub through : lets_all above (x ∷ xs) (thrown e pc w) (risen e pc w) ≡ true
@@ -61,7 +60,7 @@ pub record Comes (e : Fault) (pc : OptPc) (w : World) (above : List Frame) (x : 
 abbrev pub covers : ℕ → Handler → Bool
 covers pc h = leb h.start pc && ltb pc h.end
 
-pub record Ending (e : Fault) (pc : OptPc) (w : World) (t : typed (Op.Unwind e pc) ≡ true) (above : List Frame) (x : Frame) (xs : List Frame) (u : World) (comes : Comes e pc w above x xs u) : Type 0 where
+pub record Ending (e : Fault) (pc : Option ℕ) (w : World) (t : typed (Op.Unwind e pc) ≡ true) (above : List Frame) (x : Frame) (xs : List Frame) (u : World) (comes : Comes e pc w above x xs u) : Type 0 where
   -- a handler takes it: the frame goes on at the handler's target, with the word in its register, for one unit
   pub caught : (h : Handler) (hs : List Handler) → takers x u ≡ h ∷ hs → used_up u ≡ false →
       does w (operation (Op.Unwind e pc) t) ≡ after (put h.catch (thrown e pc w) (pc_stored h.target (paid u))) Answer.Caught

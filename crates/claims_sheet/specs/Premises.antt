@@ -1,7 +1,7 @@
 -- The premises of the PEP 342 theorems, and of the three mistakes, can be met: calls after which all premises of a theorem hold. A field has
 -- the name of its theorem; but `caught-at` is for `caught`, `yield-kv` for `yields-kv`, `sizes` for `size-kept` and `size-once`, `yield-5` for its two
 -- neighbours too, and a theorem with the premises of another has that one's (docs/rules/PEP342.md).
-use Rattle.std.specs.Prelude.{ℕ, ◌+◌, ◌-◌, ◌^◌, ◌≡◌, Bool, true, false, not, ◌&&◌, List, [], ◌∷◌, ◌++◌, length, get_or, take, drop, eqb, leb}
+use Rattle.std.specs.Prelude.{ℕ, ◌+◌, ◌-◌, ◌^◌, ◌≡◌, Bool, true, false, not, ◌&&◌, List, [], ◌∷◌, ◌++◌, length, get_or, take, drop, eqb, leb, None}
 use Rattle.heap.specs.Coding.{in_range}
 use Rattle.heap.specs.declared.fault.Fault.{Fault}
 use Rattle.heap.specs.declared.heap.ResultKind.{ResultKind}
@@ -13,7 +13,6 @@ use Rattle.model.specs.Step.{tested}
 use Rattle.model.specs.declared.machine.Cont.{Cont}
 use Rattle.model.specs.declared.machine.Driver.{Driver}
 use Rattle.model.specs.declared.machine.Frame.{Frame}
-use Rattle.model.specs.declared.call.OptPc.{OptPc}
 use Rattle.model.specs.declared.call.Op.{Op}
 use Rattle.claims_sheet.specs.Words.{found, is_coroutine, is_done, core_of, rest_of, state, suspended, too_high, lacks_memory, no_slot}
 use Rattle.claims_sheet.specs.Moves.{pc_stored, finished_with}
@@ -86,11 +85,11 @@ top_of (f ∷ fs) = f
 abbrev pub comes : List Op → Fault → ℕ → (ℕ → Frame → World → Bool) → Bool
 comes os e n more =
     let w = run os in
-    let r = risen e OptPc.None w in
-    let v = thrown e OptPc.None w in
+    let r = risen e None w in
+    let v = thrown e None w in
     let above = take n r.frames in
     let below = drop n r.frames in
-    (raises e OptPc.None w && lets_all above below v r) && more v (top_of below) (arrived above below v r)
+    (raises e None w && lets_all above below v r) && more v (top_of below) (arrived above below v r)
 
 -- a coroutine of function f that is suspended inside a call
 abbrev pub within : ℕ → List Op → List Op
@@ -145,7 +144,7 @@ pub record Premises : Type 0 where
   -- Pep342Yields: to Resume and a loop; while closing, to Resume, to the host (it awaited while it was closed) and to a cleanup
   pub yield-delivers : yield_suspends (running 1 []) 8 (λ z. not (closing z)) && yield_suspends (looping []) 8 (λ z. not (closing z) && is_loop (driver z)) ≡ true
   pub yield-closing : yield_suspends (ignoring []) 60 (λ z. closing z && asks (driver z)) ≡ true
-  pub yield-closing-quiet : yield_suspends (ignoring (Op.Await 60 0 0 ∷ hosted [])) 61 (λ z. closing z && is_host (driver z)) && yield_suspends (yielded 3 (cleaned (Op.Unwind (Fault.Throw 0) OptPc.None ∷ []))) 60 (λ z. closing z && (not (asks (driver z)) && not (is_host (driver z)))) ≡ true
+  pub yield-closing-quiet : yield_suspends (ignoring (Op.Await 60 0 0 ∷ hosted [])) 61 (λ z. closing z && is_host (driver z)) && yield_suspends (yielded 3 (cleaned (Op.Unwind (Fault.Throw 0) None ∷ []))) 60 (λ z. closing z && (not (asks (driver z)) && not (is_host (driver z)))) ≡ true
   pub yield-kv : yield_kv_suspends (running 1 []) 8 (λ z. not (closing z)) && yield_kv_suspends (ignoring []) 60 (λ z. closing z && asks (driver z)) ≡ true
   pub await-delivers : await_suspends (ignoring []) 60 (λ z. closing z && not (is_loop (driver z))) ≡ true
   pub await-in-loop : await_suspends (looping []) 8 (λ z. is_loop (driver z)) ≡ true

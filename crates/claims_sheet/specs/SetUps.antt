@@ -1,14 +1,12 @@
 -- What an accepted set-up leaves, field by field: no rule of the machine is cited. The test of a set-up is 01's closing list, and the machine
 -- that it leaves is this (`SetUps`).
-use Rattle.std.specs.Prelude.{ℕ, suc, ◌≡◌, true, false, List, [], ◌∷◌}
+use Rattle.std.specs.Prelude.{ℕ, suc, ◌≡◌, true, false, List, [], ◌∷◌, None}
 use Rattle.heap.specs.Table.{Slot}
-use Rattle.heap.specs.declared.value.Opt.{Opt}
 use Rattle.model.specs.Program.{Func, Setup, setup_ok}
 use Rattle.model.specs.ClosingList.{ClosingList}
 use Rattle.model.specs.Object.{Object}
 use Rattle.model.specs.World as World
 use Rattle.model.specs.World.{World}
-use Rattle.model.specs.declared.machine.Outcome.{Outcome}
 
 -- "each a function object, slots from 0"
 abbrev pub Objects : ℕ → List Func → List (Slot Object) → Type 0
@@ -27,11 +25,11 @@ pub record Fresh (s : Setup) (w : World) : Type 0 where
   pub ready : w.ready ≡ []
   pub finalize : w.finalize ≡ []
   pub finalizing : w.finalizing ≡ false
-  pub outcome : w.outcome ≡ Outcome.None
+  pub outcome : w.outcome ≡ None
   pub used : w.used ≡ 0
   pub seq : w.seq ≡ 0
   pub fuel : w.fuel.fuel ≡ 0
-  pub bank : w.fuel.bank ≡ Opt.None
+  pub bank : w.fuel.bank ≡ None
   pub cleanups : w.fuel.ready ≡ false
 
 pub record SetUps : Type 0 where

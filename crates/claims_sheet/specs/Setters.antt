@@ -1,13 +1,13 @@
 -- The sheet's own words: a world, or what is kept of a coroutine beside its core, with one field replaced. They are written out here, so
 -- that a wrong one of the machine's does not make the table wrong with it.
-use Rattle.std.specs.Prelude.{ℕ, Bool, List}
+use Rattle.std.specs.Prelude.{ℕ, Bool, List, Option}
 use Rattle.heap.specs.Table.{Slot}
 use Rattle.model.specs.Object.{Rest, Object}
 use Rattle.model.specs.World.{World}
 use Rattle.model.specs.declared.machine.Active.{Active}
 use Rattle.model.specs.declared.machine.Frame.{Frame}
 use Rattle.model.specs.declared.machine.Fuel.{Fuel}
-use Rattle.model.specs.declared.machine.Outcome.{Outcome}
+use Rattle.model.specs.declared.machine.Stop.{Stop}
 
 -- ---- a world
 
@@ -32,7 +32,7 @@ with_finalize x w = record { setup = w.setup; stack = w.stack; frames = w.frames
 abbrev pub with_finalizing : Bool → World → World
 with_finalizing x w = record { setup = w.setup; stack = w.stack; frames = w.frames; chain = w.chain; slots = w.slots; ready = w.ready; finalize = w.finalize; finalizing = x; outcome = w.outcome; used = w.used; seq = w.seq; fuel = w.fuel }
 
-abbrev pub with_outcome : Outcome → World → World
+abbrev pub with_outcome : Option Stop → World → World
 with_outcome x w = record { setup = w.setup; stack = w.stack; frames = w.frames; chain = w.chain; slots = w.slots; ready = w.ready; finalize = w.finalize; finalizing = w.finalizing; outcome = x; used = w.used; seq = w.seq; fuel = w.fuel }
 
 abbrev pub with_used : ℕ → World → World

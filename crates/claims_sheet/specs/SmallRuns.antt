@@ -1,8 +1,7 @@
 -- A small set-up and short lists of calls from it, which the statements by computation begin with.
-use Rattle.std.specs.Prelude.{ℕ, List, [], ◌∷◌, set}
+use Rattle.std.specs.Prelude.{ℕ, List, [], ◌∷◌, set, Option, Some, None}
 use Rattle.heap.specs.Table.{slot}
 use Rattle.heap.specs.declared.fault.Fault.{Fault}
-use Rattle.heap.specs.declared.value.Opt.{Opt}
 use Rattle.model.specs.Program.{Setup}
 use Rattle.model.specs.Object.{Object}
 use Rattle.model.specs.World.{World, fresh, with_slots}
@@ -11,12 +10,11 @@ use Rattle.model.specs.Step.{step, run_ops}
 use Rattle.model.specs.Example.{plain, catching}
 use Rattle.model.specs.declared.machine.Cont.{Cont}
 use Rattle.heap.specs.declared.heap.ResultKind.{ResultKind}
-use Rattle.model.specs.declared.call.OptPc.{OptPc}
 use Rattle.model.specs.declared.call.Op.{Op}
 
 -- ---- a set-up: three functions of 1, 2 and 6 registers, and one of 2 registers that catches
 
-abbrev pub small : ℕ → ℕ → ℕ → Opt → Setup
+abbrev pub small : ℕ → ℕ → ℕ → Option ℕ → Setup
 small rows slots memory hook =
     record {
       limits = record { depth = 4; stack = 10; rows = rows; slots = slots; memory = memory };
@@ -27,7 +25,7 @@ small rows slots memory hook =
 
 -- two rows, eight slots, memory enough, no hook
 abbrev pub usual : Setup
-usual = small 2 8 4096 Opt.None
+usual = small 2 8 4096 None
 
 -- the words of function 0, and of the first two objects made
 abbrev pub f0 : ℕ
@@ -63,7 +61,7 @@ yielded f os = running f (Op.Yield 8 0 0 ∷ os)
 
 -- .. and is closed with the word 9, which it catches
 abbrev pub ignoring : List Op → List Op
-ignoring os = yielded 3 (Op.PutWord 2 9 ∷ Op.CoroClose 3 1 0 2 ∷ Op.Unwind (Fault.Throw 9) OptPc.None ∷ os)
+ignoring os = yielded 3 (Op.PutWord 2 9 ∷ Op.CoroClose 3 1 0 2 ∷ Op.Unwind (Fault.Throw 9) None ∷ os)
 
 -- .. in a loop: the iterator in register 1, `has` 2, `val` 3
 abbrev pub looping : List Op → List Op
@@ -84,20 +82,20 @@ given_key n = running 1 (Op.FunctionCall 5 0 (Cont.Dyn 1) ∷ Op.Finish ResultKi
 -- ---- machines: with a hook, with little memory, with few slots, with a function wider than the stack, with a set-up that is refused
 
 abbrev pub hooked : ℕ → List Op → World
-hooked f os = reached (small 2 8 4096 (Opt.Some f)) os
+hooked f os = reached (small 2 8 4096 (Some f)) os
 
 abbrev pub little_memory : ℕ → List Op → World
-little_memory memory os = reached (small 2 8 memory Opt.None) os
+little_memory memory os = reached (small 2 8 memory None) os
 
 abbrev pub few_slots : ℕ → List Op → World
-few_slots slots os = reached (small 2 slots 4096 Opt.None) os
+few_slots slots os = reached (small 2 slots 4096 None) os
 
 abbrev pub wide : Setup
 wide =
     record {
       limits = record { depth = 4; stack = 10; rows = 2; slots = 8; memory = 4096 };
       costs = record { frame = 32; coro = 104; object = 160; int = 56; error = 56; iter = 112 };
-      hook = Opt.None;
+      hook = None;
       functions = plain 1 ∷ plain 20 ∷ [];
     }
 
@@ -122,4 +120,4 @@ abbrev pub closed : List Op
 closed = yielded 1 (Op.CoroClose 3 1 0 2 ∷ [])
 
 abbrev pub throws_nil : Op
-throws_nil = Op.Unwind (Fault.Throw 0) OptPc.None
+throws_nil = Op.Unwind (Fault.Throw 0) None

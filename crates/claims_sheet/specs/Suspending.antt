@@ -1,7 +1,6 @@
 -- THE SHEET of Yield, YieldKv and Await. The charge left u.
-use Rattle.std.specs.Prelude.{ℕ, suc, ◌+◌, ◌-◌, ◌*◌, max, Bool, true, false, not, ◌&&◌, List, [], ◌∷◌, map, length, get_or, take, drop}
+use Rattle.std.specs.Prelude.{ℕ, suc, ◌+◌, ◌-◌, ◌*◌, max, Bool, true, false, not, ◌&&◌, List, [], ◌∷◌, map, length, get_or, take, drop, Option, Some, None}
 use Rattle.lists.specs.Pick.{pick}
-use Rattle.heap.specs.declared.value.Opt.{Opt}
 use Rattle.heap.specs.declared.object.CoroState.{CoroState}
 use Rattle.model.specs.Lists.{is_nil}
 use Rattle.model.specs.Object.{Core, Rest, Object}
@@ -10,7 +9,6 @@ use Rattle.model.specs.declared.machine.Active.{Active}
 use Rattle.model.specs.declared.machine.Driver.{Driver}
 use Rattle.model.specs.declared.machine.Frame.{Frame}
 use Rattle.model.specs.declared.machine.Fuel.{Fuel}
-use Rattle.model.specs.declared.machine.Outcome.{Outcome}
 use Rattle.model.specs.declared.machine.Stop.{Stop}
 use Rattle.claims_sheet.specs.Setters.{with_maxregs, with_maxframes, with_payload, with_stack, with_frames, with_chain, with_finalizing, with_outcome, with_used, with_fuel}
 use Rattle.claims_sheet.specs.Words.{found, rest_of, used_with}
@@ -63,9 +61,9 @@ suspended_with k r w =
 -- ---- deliveries
 
 -- "While a close is ready, the fuel left is set aside"
-abbrev pub armed : Opt → ℕ → Bool → Fuel
-armed Opt.None n ready = pick ready (record { fuel = 0; bank = Opt.Some n; ready = ready }) (record { fuel = n; bank = Opt.None; ready = ready })
-armed (Opt.Some b) n ready = record { fuel = n; bank = Opt.Some b; ready = ready }
+abbrev pub armed : Option ℕ → ℕ → Bool → Fuel
+armed None n ready = pick ready (record { fuel = 0; bank = Some n; ready = ready }) (record { fuel = n; bank = None; ready = ready })
+armed (Some b) n ready = record { fuel = n; bank = Some b; ready = ready }
 
 -- a cleanup runs, or none; one is ready if none runs and the queue has words
 abbrev pub cleaning : Bool → World → World
@@ -87,6 +85,6 @@ is_loop Driver.Finalize = false
 -- "Iterator driver: iterator key, `val` register, then `has` = 1 and pc step .. Host driver: the outcome. Cleanup driver: finalizing ends."
 abbrev pub delivered : Driver → ℕ → ℕ → Stop → World → World
 delivered (Driver.Resume dst) payload key s w = sent dst payload w
-delivered (Driver.Iter has val iter) payload key s w = sent has 1 (put val payload (marked iter (λ d. d) (λ k. Opt.Some key) w))
-delivered Driver.Host payload key s w = with_outcome (Outcome.Some s) w
+delivered (Driver.Iter has val iter) payload key s w = sent has 1 (put val payload (marked iter (λ d. d) (λ k. Some key) w))
+delivered Driver.Host payload key s w = with_outcome (Some s) w
 delivered Driver.Finalize payload key s w = cleaning false w

@@ -1,5 +1,5 @@
 -- THE SHEET of `unwind`: its tests, then those of each frame, from the top down.
-use Rattle.std.specs.Prelude.{ℕ, Bool, true, false, not, ◌&&◌, ◌||◌, List, [], ◌∷◌, eqb, ltb, leb}
+use Rattle.std.specs.Prelude.{ℕ, Bool, true, false, not, ◌&&◌, ◌||◌, List, [], ◌∷◌, eqb, ltb, leb, Option, Some, None}
 use Rattle.lists.specs.Pick.{pick}
 use Rattle.heap.specs.Fault.{number_of, word_of}
 use Rattle.heap.specs.declared.fault.Fault.{Fault}
@@ -12,9 +12,7 @@ use Rattle.model.specs.declared.machine.Active.{Active}
 use Rattle.model.specs.declared.machine.Cont.{Cont}
 use Rattle.model.specs.declared.machine.Driver.{Driver}
 use Rattle.model.specs.declared.machine.Frame.{Frame}
-use Rattle.model.specs.declared.machine.Outcome.{Outcome}
 use Rattle.model.specs.declared.machine.Stop.{Stop}
-use Rattle.model.specs.declared.call.OptPc.{OptPc}
 use Rattle.model.specs.declared.call.Answer.{Answer}
 use Rattle.claims_sheet.specs.Setters.{with_outcome}
 use Rattle.claims_sheet.specs.Lines.{Line, Lines, lines, line, refuse, accept}
@@ -71,7 +69,7 @@ driven (a ∷ chain) = not (asks a.driver)
 abbrev pub failed_to : Driver → Stop → World → World
 failed_to (Driver.Resume dst) s w = w
 failed_to (Driver.Iter has val iter) s w = w
-failed_to Driver.Host s w = with_outcome (Outcome.Some s) w
+failed_to Driver.Host s w = with_outcome (Some s) w
 failed_to Driver.Finalize s w = cleaning false w
 
 abbrev pub failed : List Active → ℕ → ℕ → ℕ → World → World
@@ -98,9 +96,9 @@ search (x ∷ xs) value f pc w =
 
 -- ---- 11; the pc is stored; 1 to 8 as an error object, 17 as its word; 9 and 10 pass
 
-abbrev pub given_pc_stored : OptPc → World → World
-given_pc_stored OptPc.None w = w
-given_pc_stored (OptPc.Some pc) w = pc_stored pc w
+abbrev pub given_pc_stored : Option ℕ → World → World
+given_pc_stored None w = w
+given_pc_stored (Some pc) w = pc_stored pc w
 
 abbrev pub top_func : List Frame → ℕ
 top_func [] = 0
@@ -117,7 +115,7 @@ search_from_top value w = search w.frames value (top_func w.frames) (top_pc w.fr
 abbrev pub error_stored : ℕ → World → World
 error_stored n z = stored (Object.Error n (top_func z.frames) (top_pc z.frames) 0) z.setup.costs.error z
 
-abbrev pub unwind : Fault → OptPc → World → Lines Answer
+abbrev pub unwind : Fault → Option ℕ → World → Lines Answer
 unwind e pc w =
     let n = number_of e in
     let z = given_pc_stored pc w in

@@ -1,10 +1,9 @@
 -- THE SHEET of Yield, YieldKv and Await, continued: their tests. The charge left u.
-use Rattle.std.specs.Prelude.{ℕ, ◌/◌, ◌%◌, ◌^◌, Bool, true, false, not, ◌&&◌, List, [], ◌∷◌, ℤ, pos, ◌+ℤ◌, eqb}
+use Rattle.std.specs.Prelude.{ℕ, ◌/◌, ◌%◌, ◌^◌, Bool, true, false, not, ◌&&◌, List, [], ◌∷◌, ℤ, pos, ◌+ℤ◌, eqb, Option, Some, None}
 use Rattle.std.specs.Int.Signed.{lt_z}
 use Rattle.lists.specs.Pick.{pick}
 use Rattle.heap.specs.Coding.{in_range, bits_of, of_bits}
 use Rattle.heap.specs.Word.{int_word}
-use Rattle.heap.specs.declared.value.Opt.{Opt}
 use Rattle.heap.specs.declared.object.CoroState.{CoroState}
 use Rattle.model.specs.Lists.{is_nil}
 use Rattle.model.specs.Object.{Rest, Object}
@@ -71,20 +70,20 @@ yield pc dst src u =
 -- ---- YieldKv: "keeps its own key and raises the largest if the key is a greater integer"
 
 -- the integer that a word is, or names, as 64 bits
-abbrev pub bits_in : Object → Opt
-bits_in Object.Empty = Opt.None
-bits_in (Object.Func f) = Opt.None
-bits_in (Object.Int n) = Opt.Some n
-bits_in (Object.Iter s d k) = Opt.None
-bits_in (Object.Error e f p v) = Opt.None
-bits_in (Object.Coro k r) = Opt.None
+abbrev pub bits_in : Object → Option ℕ
+bits_in Object.Empty = None
+bits_in (Object.Func f) = None
+bits_in (Object.Int n) = Some n
+bits_in (Object.Iter s d k) = None
+bits_in (Object.Error e f p v) = None
+bits_in (Object.Coro k r) = None
 
-abbrev pub integer_of : World → ℕ → Opt
-integer_of w v = pick (eqb (v / 2 ^ 48) 0xFFFE) (Opt.Some (bits_of 63 (of_bits 47 (v % 2 ^ 48)))) (bits_in (found w v))
+abbrev pub integer_of : World → ℕ → Option ℕ
+integer_of w v = pick (eqb (v / 2 ^ 48) 0xFFFE) (Some (bits_of 63 (of_bits 47 (v % 2 ^ 48)))) (bits_in (found w v))
 
-abbrev pub raised_largest : ℕ → Opt → ℕ
-raised_largest largest Opt.None = largest
-raised_largest largest (Opt.Some n) = pick (lt_z (of_bits 63 largest) (of_bits 63 n)) n largest
+abbrev pub raised_largest : ℕ → Option ℕ → ℕ
+raised_largest largest None = largest
+raised_largest largest (Some n) = pick (lt_z (of_bits 63 largest) (of_bits 63 n)) n largest
 
 abbrev pub yield_kv : ℕ → ℕ → ℕ → ℕ → World → Lines Step
 yield_kv pc dst src key u =

@@ -20,7 +20,7 @@ use Rattle.model.specs.declared.machine.Driver.{Driver}
 use Rattle.model.specs.declared.machine.Frame.{Frame}
 use Rattle.model.specs.declared.machine.Charge.{Charge}
 use Rattle.model.specs.declared.coro.Started.{Started}
-use Rattle.model.specs.declared.call.OptPc.{OptPc}
+use Rattle.std.specs.Prelude.{Option, Some, None}
 use Rattle.claims_sound.proofs.Tests.{no_true, and_left, picked}
 use Rattle.claims_sound.proofs.Queue.{Queue, queue-tail}
 use Rattle.claims_sound.proofs.Sound.{Sound}
@@ -60,11 +60,11 @@ start-good {ex} (c ∷ queue) n w h q =
 -- ---- charges
 
 -- only a charge that starts a cleanup, which one without a pc does not, moves the frames
-abbrev pub Charging : OptPc → World → World → Charge → Type 0
+abbrev pub Charging : Option ℕ → World → World → Charge → Type 0
 Charging pc w u (Charge.Done n) = Calm w u
 Charging pc w u Charge.Spent = Calm w u
-Charging OptPc.None w u (Charge.Close n) = Calm w u
-Charging (OptPc.Some pc) w u (Charge.Close n) = Unit {0}
+Charging None w u (Charge.Close n) = Calm w u
+Charging (Some pc) w u (Charge.Close n) = Unit {0}
 
 pub calm-store : (pc : ℕ) (w : World) → Calm w (store_pc pc w)
 calm-store pc w = record { setup = refl; height = refl; base = base w.frames; some = some w.frames }
@@ -77,29 +77,29 @@ calm-store pc w = record { setup = refl; height = refl; base = base w.frames; so
     some [] = refl
     some (f ∷ fs) = refl
 
-done-good : {ex : Bool} (pc : OptPc) (n : ℕ) (w u : World) → Calm w u → Sound ex u → Good ex (Charging pc w) (charge_done n u)
+done-good : {ex : Bool} (pc : Option ℕ) (n : ℕ) (w u : World) → Calm w u → Sound ex u → Good ex (Charging pc w) (charge_done n u)
 done-good pc n w u c h = good (arm-sound _ (spend-sound u h)) (calm-then c (record { setup = refl; height = refl; base = refl; some = refl }))
 
-or-good : {ex : Bool} (pc : ℕ) (w u : World) (s : After Started) → Calm w u → Good ex (λ t x. x.entered ≡ false → Calm u t) s → Good ex (Charging (OptPc.Some pc) w) (charge_or s)
+or-good : {ex : Bool} (pc : ℕ) (w u : World) (s : After Started) → Calm w u → Good ex (λ t x. x.entered ≡ false → Calm u t) s → Good ex (Charging (Some pc) w) (charge_or s)
 or-good {ex} pc w u s c g =
-    picked (Good ex (Charging (OptPc.Some pc) w)) s.answer.entered (λ _. good g.sound tt) (λ e. done-good (OptPc.Some pc) s.answer.taken w s.world (calm-then c (g.fact e)) g.sound)
+    picked (Good ex (Charging (Some pc) w)) s.answer.entered (λ _. good g.sound tt) (λ e. done-good (Some pc) s.answer.taken w s.world (calm-then c (g.fact e)) g.sound)
 
-at-good : {ex : Bool} (pc : OptPc) (w u : World) → opt_pc pc ≡ true → Calm w u → Sound ex u → Good ex (Charging pc w) (charge_at pc u)
+at-good : {ex : Bool} (pc : Option ℕ) (w u : World) → opt_pc pc ≡ true → Calm w u → Sound ex u → Good ex (Charging pc w) (charge_at pc u)
 unfolding start_finalizer
-at-good OptPc.None w u e c h = done-good OptPc.None 0 w u c h
-at-good {ex} (OptPc.Some pc) w u e c h =
+at-good None w u e c h = done-good None 0 w u c h
+at-good {ex} (Some pc) w u e c h =
     let t = store_pc pc u in
     let k = store-sound pc u e h in
-    picked (Good ex (Charging (OptPc.Some pc) w)) u.fuel.ready
-    (λ _. or-good pc w (unbank t) (start_finalizer t) (calm-then (calm-then c (calm-store pc u)) (record { setup = refl; height = refl; base = refl; some = refl })) (start-good t.finalize 0 (unbank t) (unbank-sound t k) k.cleanups)) (λ _. done-good (OptPc.Some pc) 0 w u c h)
+    picked (Good ex (Charging (Some pc) w)) u.fuel.ready
+    (λ _. or-good pc w (unbank t) (start_finalizer t) (calm-then (calm-then c (calm-store pc u)) (record { setup = refl; height = refl; base = refl; some = refl })) (start-good t.finalize 0 (unbank t) (unbank-sound t k) k.cleanups)) (λ _. done-good (Some pc) 0 w u c h)
 
-slow-good : {ex : Bool} (pc : OptPc) (w : World) → opt_pc pc ≡ true → Sound ex w → Good ex (Charging pc w) (charge_slow pc w)
+slow-good : {ex : Bool} (pc : Option ℕ) (w : World) → opt_pc pc ≡ true → Sound ex w → Good ex (Charging pc w) (charge_slow pc w)
 unfolding charge_slow
 slow-good {ex} pc w e h =
     picked (Good ex (Charging pc w)) (eqb (unbank w).fuel.fuel 0) (λ _. good (unbank-sound w h) (record { setup = refl; height = refl; base = refl; some = refl }))
     (λ _. at-good pc w (unbank w) e (record { setup = refl; height = refl; base = refl; some = refl }) (unbank-sound w h))
 
-pub charge-good : {ex : Bool} (pc : OptPc) (w : World) → opt_pc pc ≡ true → Sound ex w → Good ex (Charging pc w) (charge pc w)
+pub charge-good : {ex : Bool} (pc : Option ℕ) (w : World) → opt_pc pc ≡ true → Sound ex w → Good ex (Charging pc w) (charge pc w)
 unfolding charge
 charge-good {ex} pc w e h =
     picked (Good ex (Charging pc w)) (eqb w.fuel.fuel 0) (λ _. slow-good pc w e h) (λ _. good (spend-sound w h) (record { setup = refl; height = refl; base = refl; some = refl }))

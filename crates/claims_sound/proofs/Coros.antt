@@ -9,7 +9,8 @@ use lib.Dec.{eqb, leb}
 use borrow.Author.Tests.{leb-true, le-leb, eqb-true, eq-eqb}
 use Rattle.lists.specs.Pick.{pick, pick-false}
 use Rattle.heap.specs.Table.{Slot}
-use Rattle.heap.specs.declared.value.Opt.{Opt}
+use Rattle.std.specs.Prelude.{Option, Some, None}
+use Rattle.model.specs.declared.machine.Stop.{Stop}
 use Rattle.heap.specs.declared.object.CoroState.{CoroState}
 use Rattle.model.specs.Lists.{is_nil}
 use Rattle.model.specs.State.{is_running, is_resumable, is_finished, is_created}
@@ -23,7 +24,6 @@ use Rattle.model.specs.Sound.{saved_sizes, saved_in, body_last, frames_over, wai
 use Rattle.model.specs.declared.machine.Active.{Active}
 use Rattle.model.specs.declared.machine.Frame.{Frame}
 use Rattle.model.specs.declared.machine.Fuel.{Fuel}
-use Rattle.model.specs.declared.machine.Outcome.{Outcome}
 use Rattle.claims_sound.proofs.Tests.{no_false, and_left, and_right, both, or_right, picked, negate, or_left}
 use Rattle.claims_sound.proofs.Point.{coro_in, Points, points, finds, put}
 use Rattle.claims_sound.proofs.Held.{Rows}
@@ -236,10 +236,10 @@ changed P w v f g no_one some = go (coro w v) refl
 
 -- ---- iterators
 
-plain_ok : {ex : Bool} (s : Setup) (a : ℕ) (d : Bool) (k : Opt) → ObjectOk ex s (Object.Iter a d k)
+plain_ok : {ex : Bool} (s : Setup) (a : ℕ) (d : Bool) (k : Option ℕ) → ObjectOk ex s (Object.Iter a d k)
 plain_ok s a d k = record { sizes = refl; saved = refl; rowless = refl; range = refl; wide = λ _. refl }
 
-iter-sound : {ex : Bool} (w : World) (v : ℕ) (f : Bool → Bool) (g : Opt → Opt) → Sound ex w → Sound ex (change_iter_in (object w v) v f g w)
+iter-sound : {ex : Bool} (w : World) (v : ℕ) (f : Bool → Bool) (g : Option ℕ → Option ℕ) → Sound ex w → Sound ex (change_iter_in (object w v) v f g w)
 iter-sound {ex} w v f g h = go (object w v) refl
   where
     go : (o : Object) → object w v ≡ o → Sound ex (change_iter_in o v f g w)
@@ -257,7 +257,7 @@ pub done-sound : {ex : Bool} (v : ℕ) (w : World) → Sound ex w → Sound ex (
 done-sound v w h = iter-sound w v (λ _. true) (λ k. k) h
 
 pub key-sound : {ex : Bool} (v key : ℕ) (w : World) → Sound ex w → Sound ex (set_key v key w)
-key-sound v key w h = iter-sound w v (λ d. d) (λ _. Opt.Some key) h
+key-sound v key w h = iter-sound w v (λ d. d) (λ _. Some key) h
 
 -- ---- fuel, flags, outcome
 
@@ -267,16 +267,16 @@ fuel-move w f b h e = record { setup = h.setup; tower = h.tower; heap = h.heap; 
 abbrev pub bank_ok : Fuel → Bool
 bank_ok f = is_none f.bank || eqb f.fuel 0
 
-unbank-ok : (o : Opt) (f : Fuel) → f.bank ≡ o → bank_ok f ≡ true → bank_ok (unbank_at o f) ≡ true
-unbank-ok Opt.None f e h = h
-unbank-ok (Opt.Some n) f e h = refl
+unbank-ok : (o : Option ℕ) (f : Fuel) → f.bank ≡ o → bank_ok f ≡ true → bank_ok (unbank_at o f) ≡ true
+unbank-ok None f e h = h
+unbank-ok (Some n) f e h = refl
 
 pub unbank-sound : {ex : Bool} (w : World) → Sound ex w → Sound ex (unbank w)
 unbank-sound w h = fuel-move w (unbank_at w.fuel.bank w.fuel) w.finalizing h (unbank-ok w.fuel.bank w.fuel refl h.banked)
 
-arm-ok : (o : Opt) (f : Fuel) → f.bank ≡ o → bank_ok f ≡ true → bank_ok (arm_at o f) ≡ true
-arm-ok Opt.None f e h = picked (λ (x : Fuel). bank_ok x ≡ true) f.ready (λ _. refl) (λ _. h)
-arm-ok (Opt.Some n) f e h = h
+arm-ok : (o : Option ℕ) (f : Fuel) → f.bank ≡ o → bank_ok f ≡ true → bank_ok (arm_at o f) ≡ true
+arm-ok None f e h = picked (λ (x : Fuel). bank_ok x ≡ true) f.ready (λ _. refl) (λ _. h)
+arm-ok (Some n) f e h = h
 
 pub arm-sound : {ex : Bool} (w : World) → Sound ex w → Sound ex (arm_close w)
 arm-sound w h = fuel-move w (arm_at w.fuel.bank w.fuel) w.finalizing h (arm-ok w.fuel.bank w.fuel refl h.banked)
@@ -293,7 +293,7 @@ spend-sound w h = fuel-move w (fuel_of (w.fuel.fuel - 1) w.fuel.bank w.fuel.read
     less true n e = refl
     less false n e = eq-eqb (n - 1) 0 (let z = eqb-true n 0 e in omega arith)
 
-pub outcome-sound : {ex : Bool} (o : Outcome) (w : World) → outcome_range o ≡ true → Sound ex w → Sound ex (with_outcome o w)
+pub outcome-sound : {ex : Bool} (o : Option Stop) (w : World) → outcome_range o ≡ true → Sound ex w → Sound ex (with_outcome o w)
 outcome-sound o w e h = record { setup = h.setup; tower = h.tower; heap = h.heap; tasks = h.tasks; cleanups = h.cleanups; room = h.room; banked = h.banked; outcome = e }
 
 -- the cleanup queue loses coros

@@ -19,7 +19,7 @@ use Rattle.model.specs.Sound.{runs, coros, stop_range, outcome_range}
 use Rattle.model.specs.declared.machine.Active.{Active}
 use Rattle.model.specs.declared.machine.Driver.{Driver}
 use Rattle.model.specs.declared.machine.Frame.{Frame}
-use Rattle.model.specs.declared.machine.Outcome.{Outcome}
+use Rattle.std.specs.Prelude.{Some, None}
 use Rattle.model.specs.declared.machine.Stop.{Stop}
 use Rattle.model.specs.declared.coro.Event.{Event}
 use Rattle.claims_sound.proofs.Tests.{no_true, and_left, both, picked}
@@ -31,7 +31,7 @@ use Rattle.claims_sound.proofs.Sound.{Tower, Sound}
 use Rattle.claims_sound.proofs.Tower.{put-sound, stands-within, tower-take}
 use Rattle.claims_sound.proofs.Coros.{object-ok, ended-ok, done-still, last_runs, left-sound, changed, done-sound, key-sound, finalizing-sound, outcome-sound, bank_ok}
 use Rattle.claims_sound.proofs.Enter.{send-sound}
-use Rattle.claims_sound.proofs.Good.{Good, good, fine}
+use Rattle.claims_sound.proofs.Good.{Good, good, passed_fine}
 
 -- ---- deliver
 
@@ -40,7 +40,7 @@ outcome-range (Event.Yielded p k) = refl
 outcome-range (Event.Awaiting p) = refl
 outcome-range Event.CloseIgnored = refl
 
-pub deliver-good : {ex : Bool} (d : Driver) (e : Event) (w : World) → Sound ex w → Good ex (λ _ f. fine f ≡ true) (deliver d e w)
+pub deliver-good : {ex : Bool} (d : Driver) (e : Event) (w : World) → Sound ex w → Good ex (λ _ r. passed_fine r ≡ true) (deliver d e w)
 unfolding deliver
 deliver-good (Driver.Resume dst) (Event.Yielded p k) w h = good (send-sound dst p w h) refl
 deliver-good (Driver.Resume dst) (Event.Awaiting p) w h = good (send-sound dst p w h) refl
@@ -48,13 +48,13 @@ deliver-good (Driver.Resume dst) Event.CloseIgnored w h = good h refl
 deliver-good (Driver.Iter has val iter) (Event.Yielded p k) w h = good (send-sound has 1 _ (put-sound val p _ (key-sound iter k w h))) refl
 deliver-good (Driver.Iter has val iter) (Event.Awaiting p) w h = good h refl
 deliver-good (Driver.Iter has val iter) Event.CloseIgnored w h = good h refl
-deliver-good Driver.Host e w h = good (outcome-sound (Outcome.Some (outcome_of e)) w (outcome-range e) h) refl
+deliver-good Driver.Host e w h = good (outcome-sound (Some (outcome_of e)) w (outcome-range e) h) refl
 deliver-good Driver.Finalize e w h = good (finalizing-sound false w h) refl
 
 return-sound : {ex : Bool} (d : Driver) (value : ℕ) (w : World) → Sound ex w → Sound ex (deliver_return d value w)
 return-sound (Driver.Resume dst) value w h = send-sound dst value w h
 return-sound (Driver.Iter has val iter) value w h = send-sound has 0 _ (done-sound iter w h)
-return-sound Driver.Host value w h = outcome-sound (Outcome.Some (Stop.Returned value)) w refl h
+return-sound Driver.Host value w h = outcome-sound (Some (Stop.Returned value)) w refl h
 return-sound Driver.Finalize value w h = finalizing-sound false w h
 
 -- ---- the body frame goes, and its coroutine ends
@@ -105,7 +105,7 @@ module _ {ex : Bool} (w : World) (x : Frame) (xs : List Frame) (h : Sound ex w) 
   fail-good : (d : Driver) (s : Stop) (u : World) → Sound ex u → u.frames ≡ xs → stop_range s ≡ true → Good ex Onward (fail_to d s u)
   fail-good (Driver.Resume dst) s u k e t = good k (λ _. e)
   fail-good (Driver.Iter has val iter) s u k e t = good k (λ _. e)
-  fail-good Driver.Host s u k e t = good (outcome-sound (Outcome.Some s) u t k) (λ z. no_true z)
+  fail-good Driver.Host s u k e t = good (outcome-sound (Some s) u t k) (λ z. no_true z)
   fail-good Driver.Finalize s u k e t = good (finalizing-sound false u k) (λ z. no_true z)
 
   escaped-on : (value fn pc : ℕ) → ltb fn (2 ^ 32) ≡ true → ltb pc (2 ^ 32) ≡ true → (chain : List Active) → w.chain ≡ chain → Good ex Onward (escaped_on chain value fn pc (pop_to x xs w))
@@ -181,4 +181,4 @@ abort-sound {ex} w h =
       banked = ap bank_ok r.fuel ∙ h.banked;
       outcome = ap outcome_range r.outcome ∙ h.outcome;
     } in
-    outcome-sound Outcome.None _ refl (finalizing-sound false _ empty)
+    outcome-sound None _ refl (finalizing-sound false _ empty)

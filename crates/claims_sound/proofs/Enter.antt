@@ -20,7 +20,9 @@ use Rattle.model.specs.Sound.{bases_ok, frame_names, conts_lie, catches_lie, fra
 use Rattle.model.specs.declared.machine.Driver.{Driver}
 use Rattle.model.specs.declared.machine.Active.{Active}
 use Rattle.model.specs.declared.machine.Frame.{Frame}
+use Rattle.std.specs.Prelude.{Result}
 use Rattle.model.specs.declared.coro.Entered.{Entered}
+use Rattle.heap.specs.declared.fault.Fault.{Fault}
 use Rattle.claims_sound.specs.Exact.{exact_in, exact}
 use Rattle.claims_sound.proofs.Tests.{and_left, and_right, or-first, or-second, picked}
 use Rattle.claims_sound.proofs.Stand.{Stands, Lifts, lifts}
@@ -85,7 +87,7 @@ enter-good {ex} v d w h lies = go (coro w v) refl
         good
         (enter-sound w v k r h e (active v (length frames) d) (stack ++ k.regs) (map (raise (length stack)) k.frames ++ frames) refl (resumable-idle k.state resumable) (resumable-held k.state resumable)
         (tower-enter k.regs k.frames v d h.tower (saved-lifts s k r ok.saved resumable ok.wide) lies deep high))
-        (picked (λ (x : Entered). entered_fine x ≡ true) (is_created k.state) (λ _. refl) (λ _. refl))))
+        (picked (λ (x : Result Entered Fault). entered_fine x ≡ true) (is_created k.state) (λ _. refl) (λ _. refl))))
 
 -- coro_send
 pub send-sound : {ex : Bool} (dst v : ℕ) (w : World) → Sound ex w → Sound ex (coro_send dst v w)

@@ -10,7 +10,10 @@ use Rattle.heap.specs.Table as Table
 use Rattle.heap.specs.Word.{class_of}
 use Rattle.heap.specs.declared.fault.Fault.{Fault}
 use Rattle.heap.specs.declared.value.Class.{Class}
-use Rattle.heap.specs.declared.heap.Place.{Place}
+use Rattle.std.specs.Prelude.{Option, Result, Some, None, Ok, Err}
+use Rattle.model.specs.declared.machine.Driver.{Driver}
+use Rattle.model.specs.declared.coro.Entered.{Entered}
+use Rattle.model.specs.declared.coro.Event.{Event}
 use Rattle.model.specs.Lists.{is_nil}
 use Rattle.model.specs.World.{World, After, after, and_then}
 use Rattle.model.specs.Frames.{top_base}
@@ -19,10 +22,6 @@ use Rattle.model.specs.Gate.{in_frame}
 use Rattle.model.specs.Answer.{number_of}
 use Rattle.model.specs.Sound.{lies_under}
 use Rattle.model.specs.declared.machine.Frame.{Frame}
-use Rattle.model.specs.declared.coro.WordOr.{WordOr}
-use Rattle.model.specs.declared.coro.Entered.{Entered}
-use Rattle.model.specs.declared.coro.Suspension.{Suspension}
-use Rattle.model.specs.declared.coro.AutoKey.{AutoKey}
 use Rattle.model.specs.declared.exec.Step.{Step}
 use Rattle.model.specs.declared.call.Answer.{Answer}
 use Rattle.claims_sound.proofs.Tests.{no_true}
@@ -43,22 +42,26 @@ then-good {o = o} g h f = f o.world o.answer h.sound h.fact
 abbrev pub fine : Fault → Bool
 fine f = not (eqb (Faults.number_of f) 11)
 
-abbrev pub made_fine : WordOr → Bool
-made_fine (WordOr.Word v) = true
-made_fine (WordOr.Refused f) = fine f
+abbrev pub made_fine : Result ℕ Fault → Bool
+made_fine (Ok v) = true
+made_fine (Err f) = fine f
 
-abbrev pub entered_fine : Entered → Bool
-entered_fine Entered.Fresh = true
-entered_fine (Entered.Suspended d) = true
-entered_fine (Entered.Refused f) = fine f
+abbrev pub passed_fine : Result Unit Fault → Bool
+passed_fine (Ok u) = true
+passed_fine (Err f) = fine f
 
-abbrev pub suspension_fine : Suspension → Bool
-suspension_fine (Suspension.Done d e) = true
-suspension_fine (Suspension.Refused f) = fine f
+abbrev pub entered_fine : Result Entered Fault → Bool
+entered_fine (Ok Entered.Fresh) = true
+entered_fine (Ok (Entered.Suspended d)) = true
+entered_fine (Err f) = fine f
 
-abbrev pub key_fine : AutoKey → Bool
-key_fine (AutoKey.Key k n) = true
-key_fine (AutoKey.Refused f) = fine f
+abbrev pub suspension_fine : Result (Driver × Event) Fault → Bool
+suspension_fine (Ok (d, e)) = true
+suspension_fine (Err f) = fine f
+
+abbrev pub key_fine : Result (ℕ × ℕ) Fault → Bool
+key_fine (Ok (k, n)) = true
+key_fine (Err f) = fine f
 
 abbrev pub step_fine : Step → Bool
 step_fine Step.Next = true
@@ -72,10 +75,10 @@ answer_fine a = not (eqb (number_of a) 11)
 pub fine-not_a : (w : World) (v : ℕ) → fine (not_a w v) ≡ true
 fine-not_a w v = go (class_of v) (place w v)
   where
-    go : (c : Class) (p : Place) → fine (Table.not_a c p) ≡ true
+    go : (c : Class) (p : Option ℕ) → fine (Table.not_a c p) ≡ true
     go Class.Nil p = refl
-    go (Class.Ref o) Place.Nothing = refl
-    go (Class.Ref o) (Place.At i) = refl
+    go (Class.Ref o) None = refl
+    go (Class.Ref o) (Some i) = refl
     go (Class.Int z) p = refl
     go Class.Opaque p = refl
 

@@ -6,15 +6,13 @@ use lib.Dec.{eqb}
 use borrow.Author.Tests.{not-false}
 use Rattle.heap.specs.Int.{next_key}
 use Rattle.heap.specs.declared.fault.Fault.{Fault}
-use Rattle.heap.specs.declared.int.Exact.{Exact}
+use Rattle.std.specs.Prelude.{Option, Result, Some, None, Ok, Err}
 use Rattle.model.specs.Program.{func, is_function}
 use Rattle.model.specs.Object.{Object}
 use Rattle.model.specs.World.{World}
 use Rattle.model.specs.Frames.{reg}
 use Rattle.model.specs.Heap.{object, not_a}
 use Rattle.model.specs.Exec.{window, indirect_to, indirect, key_at, key_exact, auto_key}
-use Rattle.model.specs.declared.coro.WordOr.{WordOr}
-use Rattle.model.specs.declared.coro.AutoKey.{AutoKey}
 use Rattle.claims_sound.proofs.Tests.{picked}
 use Rattle.claims_sound.proofs.Sound.{Sound}
 use Rattle.claims_sound.proofs.Good.{Good, good, then-good, fine, key_fine, fine-not_a, Still, still}
@@ -38,18 +36,18 @@ indirect-good dst callee argc w h = indirect-to (reg w callee) dst argc w h (obj
 
 -- ---- auto_key
 
-pub record Keyed (w u : World) (k : AutoKey) : Type 0 where
+pub record Keyed (w u : World) (k : Result (ℕ × ℕ) Fault) : Type 0 where
   pub still : Still w u
   pub fine : key_fine k ≡ true
 
-key-at : {ex : Bool} (n : ℕ) (w u : World) (m : WordOr) → Sound ex u → Making w u m → Good ex (Keyed w) (key_at n u m)
-key-at n w u (WordOr.Word k) h p = good h (record { still = p.still; fine = refl })
-key-at n w u (WordOr.Refused f) h p = good h (record { still = p.still; fine = p.fine })
+key-at : {ex : Bool} (n : ℕ) (w u : World) (m : Result ℕ Fault) → Sound ex u → Making w u m → Good ex (Keyed w) (key_at n u m)
+key-at n w u (Ok k) h p = good h (record { still = p.still; fine = refl })
+key-at n w u (Err f) h p = good h (record { still = p.still; fine = p.fine })
 
 pub auto-good : {ex : Bool} (largest : ℕ) (w : World) → Sound ex w → Good ex (Keyed w) (auto_key largest w)
 unfolding auto_key
 auto-good {ex} largest w h = go (next_key largest)
   where
-    go : (x : Exact) → Good ex (Keyed w) (key_exact x w)
-    go (Exact.Fits n) = then-good (key_at n) (int-good n w h) (λ u m k p. key-at n w u m k p)
-    go Exact.Over = good h (record { still = still w; fine = refl })
+    go : (x : Option ℕ) → Good ex (Keyed w) (key_exact x w)
+    go (Some n) = then-good (key_at n) (int-good n w h) (λ u m k p. key-at n w u m k p)
+    go None = good h (record { still = still w; fine = refl })

@@ -14,8 +14,8 @@ use Rattle.heap.specs.Charge.{sat_add}
 use Rattle.heap.specs.Int.{inline_of, exactly, value_of}
 use Rattle.heap.specs.Table.{slot, push_object}
 use Rattle.heap.specs.declared.fault.Fault.{Fault}
-use Rattle.heap.specs.declared.int.Exact.{Exact}
-use Rattle.heap.specs.declared.int.Inline.{Inline}
+use Rattle.std.specs.Prelude.{Option, Result, Some, None, Err}
+use Rattle.heap.specs.declared.value.Word.{Word}
 use Rattle.heap.specs.declared.int.IntTy.{IntTy}
 use Rattle.model.specs.Program.{Func, Setup, func, no_func, is_function}
 use Rattle.model.specs.Object.{Object, is_filled, Absent, as_coro}
@@ -26,7 +26,6 @@ use Rattle.model.specs.Rows.{held_rows, lowest_free, free_row, rows_full}
 use Rattle.model.specs.Coro.{new_regs, new_core, new_rest, coro_create}
 use Rattle.model.specs.Sound.{runs, widest, row_words}
 use Rattle.model.specs.declared.machine.Cont.{Cont}
-use Rattle.model.specs.declared.coro.WordOr.{WordOr}
 use Rattle.heap.specs.declared.heap.ResultKind.{ResultKind}
 use Rattle.claims_sound.proofs.Tests.{both, or-second, picked}
 use Rattle.claims_sound.proofs.Stand.{Fits, Lifts, l-body, last_of, over-of, widths-saved}
@@ -39,14 +38,14 @@ use Rattle.claims_sound.proofs.Coros.{seq-sound}
 use Rattle.claims_sound.proofs.Good.{Good, good, made_fine, Still, still}
 
 -- what was made: the stack and frames stand, and no refusal is 11
-pub record Making (w u : World) (m : WordOr) : Type 0 where
+pub record Making (w u : World) (m : Result ℕ Fault) : Type 0 where
   pub still : Still w u
   pub fine : made_fine m ≡ true
 
-pub refusing : {ex : Bool} (w : World) (f : Fault) → Sound ex w → made_fine (WordOr.Refused f) ≡ true → Good ex (Making w) (refuse w f)
+pub refusing : {ex : Bool} (w : World) (f : Fault) → Sound ex w → made_fine (Err f) ≡ true → Good ex (Making w) (refuse w f)
 refusing w f h e = good h (record { still = still w; fine = e })
 
-pub making-from : {ex : Bool} {w u : World} {o : After WordOr} → Still w u → Good ex (Making u) o → Good ex (Making w) o
+pub making-from : {ex : Bool} {w u : World} {o : After (Result ℕ Fault)} → Still w u → Good ex (Making u) o → Good ex (Making w) o
 making-from k g =
     let z = g.fact.still in
     record {
@@ -80,16 +79,16 @@ alloc-plain bytes o w h ok f a = alloc-good bytes o w h ok f (ap runs a) (plain_
 
 -- ---- integers as words
 
-encode-good : {ex : Bool} (n : ℕ) (w : World) → Sound ex w → (i : Inline) → Good ex (Making w) (encode_at i n w)
-encode-good n w h (Inline.At x) = good h (record { still = still w; fine = refl })
-encode-good n w h Inline.Large = alloc-plain w.setup.costs.int (Object.Int n) w h (record { sizes = refl; saved = refl; rowless = refl; range = refl; wide = λ _. refl }) refl refl
+encode-good : {ex : Bool} (n : ℕ) (w : World) → Sound ex w → (i : Option Word) → Good ex (Making w) (encode_at i n w)
+encode-good n w h (Some x) = good h (record { still = still w; fine = refl })
+encode-good n w h None = alloc-plain w.setup.costs.int (Object.Int n) w h (record { sizes = refl; saved = refl; rowless = refl; range = refl; wide = λ _. refl }) refl refl
 
 pub int-good : {ex : Bool} (n : ℕ) (w : World) → Sound ex w → Good ex (Making w) (encode_int n w)
 int-good n w h = encode-good n w h (inline_of (of_bits 63 n))
 
-exact-good : {ex : Bool} (x : Exact) (w : World) → Sound ex w → Good ex (Making w) (encode_exact x w)
-exact-good (Exact.Fits n) w h = int-good n w h
-exact-good Exact.Over w h = refusing w Fault.ArithOverflow h refl
+exact-good : {ex : Bool} (x : Option ℕ) (w : World) → Sound ex w → Good ex (Making w) (encode_exact x w)
+exact-good (Some n) w h = int-good n w h
+exact-good None w h = refusing w Fault.ArithOverflow h refl
 
 pub dyn-good : {ex : Bool} (kind : ResultKind) (v : ℕ) (w : World) → Sound ex w → Good ex (Making w) (to_dyn kind v w)
 unfolding to_dyn

@@ -20,9 +20,8 @@ use Rattle.model.specs.Machine.{error_of, store_some}
 use Rattle.model.specs.Call.{opt_pc}
 use Rattle.model.specs.Sound.{frame_names}
 use Rattle.model.specs.declared.program.Handler.{Handler}
-use Rattle.model.specs.declared.program.Caught.{Caught}
+use Rattle.std.specs.Prelude.{Option, Some, None}
 use Rattle.model.specs.declared.machine.Frame.{Frame}
-use Rattle.model.specs.declared.call.OptPc.{OptPc}
 use Rattle.claims_sound.proofs.Tests.{and_left, and_right, both, picked}
 use Rattle.claims_sound.proofs.Stand.{names_of}
 use Rattle.claims_sound.proofs.Sound.{Sound, Facts, facts}
@@ -31,15 +30,15 @@ use Rattle.claims_sound.proofs.Make.{Making, alloc-plain}
 use Rattle.claims_sound.proofs.Good.{Good}
 
 -- the handler found is one of the function's
-pub first-in : (p : Handler → Bool) (pc : ℕ) (hs : List Handler) (h : Handler) → each p hs ≡ true → first_of pc hs ≡ Caught.By h → p h ≡ true
+pub first-in : (p : Handler → Bool) (pc : ℕ) (hs : List Handler) (h : Handler) → each p hs ≡ true → first_of pc hs ≡ Some h → p h ≡ true
 first-in p pc [] h e q = never cc
 first-in p pc (x ∷ hs) h e q = go (covers pc x) q (λ z. first-in p pc hs h (and_right (p x) _ e) z)
   where
-    same : Caught.By x ≡ Caught.By h → x ≡ h
+    same : Some x ≡ Some h → x ≡ h
     same z = cc
 
-    go : (b : Bool) → pick b (Caught.By x) (first_of pc hs) ≡ Caught.By h → (first_of pc hs ≡ Caught.By h → p h ≡ true) → p h ≡ true
-    go b z next = picked (λ (c : Caught). c ≡ Caught.By h → p h ≡ true) b (λ _ z. subst (λ y. p y ≡ true) (same z) (and_left (p x) _ e)) (λ _ z. next z) z
+    go : (b : Bool) → pick b (Some x) (first_of pc hs) ≡ Some h → (first_of pc hs ≡ Some h → p h ≡ true) → p h ≡ true
+    go b z next = picked (λ (c : Option Handler). c ≡ Some h → p h ≡ true) b (λ _ z. subst (λ y. p y ≡ true) (same z) (and_left (p x) _ e)) (λ _ z. next z) z
 
 -- the functions and pcs of frames have 32 bits
 named_small : {s : Setup} (f : Frame) → Facts s → frame_names s f ≡ true → ltb f.func (2 ^ 32) ≡ true
@@ -69,6 +68,6 @@ error-good f w h from =
     alloc-plain w.setup.costs.error (error_of f w) w h
     (record { sizes = refl; saved = refl; rowless = refl; range = both (both from (func-small w h)) (pc-small w h); wide = λ _. refl }) refl refl
 
-pub some-sound : {ex : Bool} (pc : OptPc) (w : World) → opt_pc pc ≡ true → Sound ex w → Sound ex (store_some pc w)
-some-sound OptPc.None w e h = h
-some-sound (OptPc.Some pc) w e h = store-sound pc w e h
+pub some-sound : {ex : Bool} (pc : Option ℕ) (w : World) → opt_pc pc ≡ true → Sound ex w → Sound ex (store_some pc w)
+some-sound None w e h = h
+some-sound (Some pc) w e h = store-sound pc w e h

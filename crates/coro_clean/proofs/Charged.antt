@@ -12,7 +12,7 @@ use Rattle.model.specs.Frames.{top_base}
 use Rattle.model.specs.Call.{opt_pc}
 use Rattle.model.specs.Cleanup.{charge}
 use Rattle.model.specs.Sound.{sound}
-use Rattle.model.specs.declared.call.OptPc.{OptPc}
+use Rattle.std.specs.Prelude.{Option, Some}
 use Rattle.model.specs.declared.machine.Charge.{Charge}
 use Rattle.model.specs.declared.machine.Frame.{Frame}
 use Rattle.model.specs.declared.machine.Fuel.{Fuel}
@@ -33,7 +33,7 @@ use Rattle.machine_state.proofs.Frames.{top-base}
 
 -- ---- the world
 
-module _ (pc : OptPc) (w : World) (narrow : opt_pc pc ≡ true) (snd : sound w ≡ true) where
+module _ (pc : Option ℕ) (w : World) (narrow : opt_pc pc ≡ true) (snd : sound w ≡ true) where
   well : Good false (Charging pc w) (charge pc w)
   well = charge-good pc w narrow (sound→ w snd (λ z. no_false z))
 
@@ -49,13 +49,13 @@ module _ (pc : OptPc) (w : World) (narrow : opt_pc pc ≡ true) (snd : sound w �
   spent-calm e = subst (Charging pc w (charge pc w).world) e well.fact
 
 -- a pc of 32 bits
-pub narrow-pc : (pc : ℕ) → pc < 2 ^ 32 → opt_pc (OptPc.Some pc) ≡ true
+pub narrow-pc : (pc : ℕ) → pc < 2 ^ 32 → opt_pc (Some pc) ≡ true
 narrow-pc pc h = lt-ltb pc (2 ^ 32) h
 
 -- ---- the words
 
 -- the instruction may be called
-pub charged-ok : (l : Sizes) (M M' : Beside → Lent) (m m' : Machine) (f f' : Fuel) (pc : OptPc) (n : ℕ) → opt_pc pc ≡ true → (o : Ok l M (with m f)) → SameLengths (M o.beside) (M' o.beside)
+pub charged-ok : (l : Sizes) (M M' : Beside → Lent) (m m' : Machine) (f f' : Fuel) (pc : Option ℕ) (n : ℕ) → opt_pc pc ≡ true → (o : Ok l M (with m f)) → SameLengths (M o.beside) (M' o.beside)
     → Does l (charge pc o.world) (M' o.beside) m' f' (Charge.Done n) → Ok l M' (with m' f')
 charged-ok l M M' m m' f f' pc n narrow o k d =
     ok-next l M M' (with m f) (with m' f') o (charge pc o.world).world (charged-calm pc o.world narrow o.sound n (sym d.answer)).setup (charged-sound pc o.world narrow o.sound) k d.world

@@ -6,13 +6,12 @@ use Prim.Native.Nat.{ℕ, zero, suc, ◌^◌, ◌≤◌, ◌<◌}
 use native.Mathlib.Omega.{arith}
 use lib.ListN.{length}
 use Rattle.lists.specs.Pick.{pick, pick-false}
-use Rattle.heap.specs.declared.value.Opt.{Opt}
+use Rattle.std.specs.Prelude.{Option, Some, None}
 use Rattle.model.specs.World.{World, After, after, with_finalize}
 use Rattle.model.specs.Frames.{store_pc}
 use Rattle.model.specs.Fuel.{fuel_of, unbank_at, unbank, arm_at, set_finalizing}
 use Rattle.model.specs.Cleanup.{start_from, start_finalizer, charge_done, charge_or, charge_at}
 use Rattle.model.specs.Sound.{sound}
-use Rattle.model.specs.declared.call.OptPc.{OptPc}
 use Rattle.model.specs.declared.coro.Started.{Started}
 use Rattle.model.specs.declared.machine.Charge.{Charge}
 use Rattle.model.specs.declared.machine.Fuel.{Fuel}
@@ -30,19 +29,19 @@ use Rattle.coro_clean.proofs.Search.{test}
 
 -- ---- where no cleanup starts, the fuel taken back stays
 
-unbanked : (o : Opt) (f : Fuel) → f.bank ≡ o → (unbank_at o f).bank ≡ Opt.None
-unbanked Opt.None f e = e
-unbanked (Opt.Some n) f e = refl
+unbanked : (o : Option ℕ) (f : Fuel) → f.bank ≡ o → (unbank_at o f).bank ≡ None
+unbanked None f e = e
+unbanked (Some n) f e = refl
 
 -- fuel that is not set aside, and no close ready
-unarmed : (o : Opt) (n : ℕ) → o ≡ Opt.None → (arm_at o (fuel_of n o false)).fuel ≡ n
-unarmed Opt.None n e = ap (λ (x : Fuel). x.fuel) (pick-false (fuel_of 0 (Opt.Some n) false) (fuel_of n Opt.None false))
-unarmed (Opt.Some k) n e = refl
+unarmed : (o : Option ℕ) (n : ℕ) → o ≡ None → (arm_at o (fuel_of n o false)).fuel ≡ n
+unarmed None n e = ap (λ (x : Fuel). x.fuel) (pick-false (fuel_of 0 (Some n) false) (fuel_of n None false))
+unarmed (Some k) n e = refl
 
 abbrev Keeps : World → After Started → Type 0
 Keeps w o = o.answer.entered ≡ false → o.world.fuel.fuel ≡ w.fuel.fuel
 
-keeps : (n : ℕ) (queue : List ℕ) (w : World) → w.fuel.bank ≡ Opt.None → Keeps w (start_from n queue w)
+keeps : (n : ℕ) (queue : List ℕ) (w : World) → w.fuel.bank ≡ None → Keeps w (start_from n queue w)
 keeps n [] w e = λ _. unarmed w.fuel.bank w.fuel.fuel e
 keeps n (c ∷ queue) w e = let next = keeps (suc n) queue w e in picked (Keeps w) (test w c queue) (λ _ z. no_true z) (λ _. next)
 
@@ -64,10 +63,10 @@ module _ (l : Sizes) (M : Lent) (m : Machine) (g : Fuel) (pc : ℕ) (w : World) 
   pub sought : (s : Started) → s ≡ (start_finalizer (store_pc pc w)).answer → Does l (charge_or (after (start_finalizer (store_pc pc w)).world s)) M m g a → Does l (charge_ready pc w) M m g a
   sought s e d = subst (λ z. Does l (charge_or (after (start_finalizer (store_pc pc w)).world z)) M m g a) e d
 
-  pub at_ready : w.fuel.ready ≡ true → Does l (charge_ready pc w) M m g a → Does l (charge_at (OptPc.Some pc) w) M m g a
+  pub at_ready : w.fuel.ready ≡ true → Does l (charge_ready pc w) M m g a → Does l (charge_at (Some pc) w) M m g a
   at_ready e d = subst (λ o. Does l o M m g a) (sym (chosen (charge_ready pc w) (charge_done 0 w) w.fuel.ready e)) d
 
-  pub at-idle : w.fuel.ready ≡ false → Does l (charge_done 0 w) M m g a → Does l (charge_at (OptPc.Some pc) w) M m g a
+  pub at-idle : w.fuel.ready ≡ false → Does l (charge_done 0 w) M m g a → Does l (charge_at (Some pc) w) M m g a
   at-idle e d = subst (λ o. Does l o M m g a) (sym (passed (charge_ready pc w) (charge_done 0 w) w.fuel.ready e)) d
 
 -- a unit is there where no cleanup has started
@@ -82,7 +81,7 @@ unit_left l M m f f' w s e d h n =
 -- fuel taken back, and some: so it is when it is taken back once more
 pub paid-again : (f g : Fuel) → g ≡ unbank_at f.bank f → (g.fuel ≡ 0 → ⊥) → 1 ≤ (unbank_at g.bank g).fuel
 paid-again f g e n =
-    let none : g.bank ≡ Opt.None = ap (λ (x : Fuel). x.bank) e ∙ unbanked f.bank f refl in
+    let none : g.bank ≡ None = ap (λ (x : Fuel). x.bank) e ∙ unbanked f.bank f refl in
     let same : (unbank_at g.bank g).fuel ≡ g.fuel = ap (λ o. (unbank_at o g).fuel) none in
     some (unbank_at g.bank g).fuel (λ z. n (sym same ∙ z))
   where

@@ -12,8 +12,7 @@ use Rattle.heap.specs.Slot.{width, task_words, finalized_words}
 use Rattle.heap.specs.Heap.{coro_in, slots_of, place_of, coro_of, put_slot}
 use Rattle.heap.specs.Table.{Slot, slot}
 use Rattle.heap.specs.declared.fault.Fault.{Fault}
-use Rattle.heap.specs.declared.heap.Coroutine.TheVariants as RV
-use Rattle.heap.specs.declared.heap.CoroPlace.TheVariants as L
+use Rattle.std.specs.Prelude.{Ok, Err}
 use Rattle.heap.specs.declared.object.CoroObj.{CoroObj}
 use Rattle.heap.specs.declared.object.Object.TheVariants as O
 use Rattle.heap.proofs.Fields as H
@@ -26,7 +25,6 @@ use Rattle.model.specs.Cleanup.{join_ready, spawn_task}
 use Rattle.model.specs.Added.{hand_over_as, hand_over}
 use Rattle.model.specs.Sound.{sound}
 use Rattle.model.specs.declared.call.Answer.{Answer}
-use Rattle.model.specs.declared.coro.WordOr.{WordOr}
 use Rattle.model.specs.declared.machine.Fuel.{Fuel}
 use Rattle.claims_sound.proofs.Tests.{no_false}
 use Rattle.claims_sound.proofs.Queue as I
@@ -58,12 +56,12 @@ joins-room mark xs i v y q n h k =
 -- ---- what is owed of the coroutine in slot i, by what its slot says
 
 pub record Tasks (l : Sizes) (M : Lent) (m : Machine) (f : Fuel) (v : ℕ) (w : World) (i : ℕ) : Type 0 where
-  pub already : (coro_in M.slots i).task ≡ true → Does l (spawn_task v w) M m f (WordOr.Word v)
-  pub late : (coro_in M.slots i).task ≡ false → is_resumable (coro_in M.slots i).state ≡ false → Does l (spawn_task v w) M m f (WordOr.Word v)
+  pub already : (coro_in M.slots i).task ≡ true → Does l (spawn_task v w) M m f (Ok v)
+  pub late : (coro_in M.slots i).task ≡ false → is_resumable (coro_in M.slots i).state ≡ false → Does l (spawn_task v w) M m f (Ok v)
   pub room : sound w ≡ true → Room w.setup M → (coro_in M.slots i).task ≡ false → m.ready < length M.ready
   pub joins : (coro_in M.slots i).task ≡ false → is_resumable (coro_in M.slots i).state ≡ true → (slots' ready' : List ℕ)
       → slots' ≡ put_chunk width M.slots i (task_words (chunk_at width M.slots i)) → QueueDo (λ xs. xs ++ (v ∷ [])) M.ready ready' m.ready (m.ready + 1)
-      → Does l (spawn_task v w) (on_slots slots' (on_ready ready' M)) (with_waiting (m.ready + 1) m) f (WordOr.Word v)
+      → Does l (spawn_task v w) (on_slots slots' (on_ready ready' M)) (with_waiting (m.ready + 1) m) f (Ok v)
 
 pub record Hands (l : Sizes) (M : Lent) (m : Machine) (f : Fuel) (v : ℕ) (w : World) (i : ℕ) : Type 0 where
   pub not-suspended : is_suspended (coro_in M.slots i).state ≡ false → Does l (hand_over v w) M m f (Answer.Refused Fault.InvalidCoroState)
@@ -78,17 +76,17 @@ pub record Hands (l : Sizes) (M : Lent) (m : Machine) (f : Fuel) (v : ℕ) (w : 
 module _ (l : Sizes) (M : Lent) (m : Machine) (f : Fuel) (v : ℕ) (w : World) (rep : Rep l w M m f) where
   -- ---- no coroutine
 
-  pub task-refused : (g : Fault) → RV.Not g ≡ coro_of (slots_of m.count M.slots) v → Does l (spawn_task v w) M m f (WordOr.Refused Fault.TypeError)
+  pub task-refused : (g : Fault) → Err g ≡ coro_of (slots_of m.count M.slots) v → Does l (spawn_task v w) M m f (Err Fault.TypeError)
   unfolding spawn_task
-  task-refused g e = does l M m f (spawn_task v w) w (WordOr.Refused Fault.TypeError) (ap (λ c. join_ready c v w) (coro-absent l M m f v w rep g e)) rep
+  task-refused g e = does l M m f (spawn_task v w) w (Err Fault.TypeError) (ap (λ c. join_ready c v w) (coro-absent l M m f v w rep g e)) rep
 
-  pub hand-refused : (g : Fault) → RV.Not g ≡ coro_of (slots_of m.count M.slots) v → Does l (hand_over v w) M m f (Answer.Refused g)
+  pub hand-refused : (g : Fault) → Err g ≡ coro_of (slots_of m.count M.slots) v → Does l (hand_over v w) M m f (Answer.Refused g)
   unfolding hand_over
   hand-refused g e =
-      let q = lacks w.slots v g (in-slots l M m f v w rep (RV.Not g) e) in
+      let q = lacks w.slots v g (in-slots l M m f v w rep (Err g) e) in
       does l M m f (hand_over v w) w (Answer.Refused g) (ap (λ c. hand_over_as c v w) q.coro ∙ ap (λ x. after w (Answer.Refused x)) (sym q.fault)) rep
 
-  module _ (i : ℕ) (at : L.At i ≡ place_of (coro_of (slots_of m.count M.slots) v)) where
+  module _ (i : ℕ) (at : Ok i ≡ place_of (coro_of (slots_of m.count M.slots) v)) where
     pub t : There w.slots v i (coro_in M.slots i)
     t = placed l M m f v w rep i at
 
@@ -111,9 +109,9 @@ module _ (l : Sizes) (M : Lent) (m : Machine) (f : Fuel) (v : ℕ) (w : World) (
     unfolding spawn_task
     as-task = ap (λ c. join_ready c v w) t.coro
 
-    task_stays : may-join ≡ false → Does l (spawn_task v w) M m f (WordOr.Word v)
+    task_stays : may-join ≡ false → Does l (spawn_task v w) M m f (Ok v)
     unfolding may-join
-    task_stays e = does l M m f (spawn_task v w) w (WordOr.Word v) (as-task ∙ passed _ (after w (WordOr.Word v)) may-join e) rep
+    task_stays e = does l M m f (spawn_task v w) w (Ok v) (as-task ∙ passed _ (after w (Ok v)) may-join e) rep
 
     pub tasks-at : Tasks l M m f v w i
     unfolding may-join
@@ -133,8 +131,8 @@ module _ (l : Sizes) (M : Lent) (m : Machine) (f : Fuel) (v : ℕ) (w : World) (
           let queued = turn-ready l w M m f rep (w.ready ++ (v ∷ [])) ready' (m.ready + 1) (push w.ready rep.ready) in
           let k = t.core in
           let r' = with_task true t.rest in
-          does l (on_slots slots' (on_ready ready' M)) (with_waiting (m.ready + 1) m) f (spawn_task v w) (set_coro v k r' u) (WordOr.Word v)
-          (as-task ∙ chosen (after (set_coro v k r' u) (WordOr.Word v)) _ may-join (ap₂ (λ b c. not b && c) (sym task-is ∙ e) (ap is_resumable (sym state-is) ∙ r)))
+          does l (on_slots slots' (on_ready ready' M)) (with_waiting (m.ready + 1) m) f (spawn_task v w) (set_coro v k r' u) (Ok v)
+          (as-task ∙ chosen (after (set_coro v k r' u) (Ok v)) _ may-join (ap₂ (λ b c. not b && c) (sym task-is ∙ e) (ap is_resumable (sym state-is) ∙ r)))
           (rest-rep l (on_ready ready' M) (with_waiting (m.ready + 1) m) f v u queued i (coro_in M.slots i) t r' slots' refl
           (H.tasks M.slots i (tag_of v) (coro_in M.slots i) (placed-words l M m f v w rep i at) slots' mark
           ∙ ap (λ (x : CoroObj). put_slot M.slots i (slot (tag_of v) (O.Coro (as_task x)))) t.is));

@@ -14,7 +14,9 @@ use Rattle.model.specs.Heap.{coro, change_as, change_coro}
 use Rattle.model.specs.Fuel.{unbank}
 use Rattle.model.specs.Coro.{enter_as, coro_enter}
 use Rattle.model.specs.Cleanup.{close, start_from, start_finalizer}
+use Rattle.std.specs.Prelude.{Result}
 use Rattle.model.specs.declared.coro.Entered.{Entered}
+use Rattle.heap.specs.declared.fault.Fault.{Fault}
 use Rattle.model.specs.declared.coro.Started.{Started}
 use Rattle.model.specs.declared.machine.Driver.{Driver}
 use Rattle.model.specs.declared.machine.Fuel.{Fuel}
@@ -35,7 +37,7 @@ enter-queue v d w = go (coro w v)
   where
     go : (c : Coroutine) → (enter_as c v d w).world.finalize ≡ w.finalize
     go Absent = refl
-    go (Is k r) = picked (λ (o : After Entered). o.world.finalize ≡ w.finalize) _ (λ _. refl) (λ _. picked (λ (o : After Entered). o.world.finalize ≡ w.finalize) _ (λ _. refl) (λ _. refl))
+    go (Is k r) = picked (λ (o : After (Result Entered Fault)). o.world.finalize ≡ w.finalize) _ (λ _. refl) (λ _. picked (λ (o : After (Result Entered Fault)). o.world.finalize ≡ w.finalize) _ (λ _. refl) (λ _. refl))
 
 change-queue : (v : ℕ) (f : Core → Core) (g : Rest → Rest) (w : World) → (change_coro v f g w).finalize ≡ w.finalize
 change-queue v f g w = go (coro w v)

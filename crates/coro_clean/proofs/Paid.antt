@@ -5,7 +5,7 @@ use Prim.Native.Nat.{ℕ}
 use lib.Dec.{eqb}
 use borrow.Author.Tests.{eq-eqb, ne_eqb}
 use Rattle.lists.specs.Pick.{pick, pick_true, pick-false}
-use Rattle.model.specs.declared.call.OptPc.{OptPc}
+use Rattle.std.specs.Prelude.{Option}
 use Rattle.model.specs.World.{World, After, after}
 use Rattle.model.specs.Fuel.{unbank_at, unbank, arm_at, arm_close, spend}
 use Rattle.model.specs.Cleanup.{charge_done, charge_at, charge_slow, charge}
@@ -36,13 +36,13 @@ module _ (l : Sizes) (M : Lent) (m : Machine) (f : Fuel) (w : World) (rep : Rep 
 
   -- ---- fuel in hand, and none
 
-  pub charge-fast : (pc : OptPc) (g : Fuel) → (f.fuel ≡ 0 → ⊥) → g ≡ spent f → Does l (charge pc w) M m g (Charge.Done 0)
+  pub charge-fast : (pc : Option ℕ) (g : Fuel) → (f.fuel ≡ 0 → ⊥) → g ≡ spent f → Does l (charge pc w) M m g (Charge.Done 0)
   unfolding charge
   charge-fast pc g n e =
       does l M m g (charge pc w) (spend w) (Charge.Done 0)
       (passed (charge_slow pc w) (after (spend w) (Charge.Done 0)) (eqb w.fuel.fuel 0) (ap (λ x. eqb x.fuel 0) (sym rep.fuel) ∙ ne_eqb f.fuel 0 n)) (spend-rep g e)
 
-  pub charge-slow : (pc : OptPc) (M' : Lent) (n : Machine) (g : Fuel) (a : Charge) → f.fuel ≡ 0 → Does l (charge_slow pc w) M' n g a → Does l (charge pc w) M' n g a
+  pub charge-slow : (pc : Option ℕ) (M' : Lent) (n : Machine) (g : Fuel) (a : Charge) → f.fuel ≡ 0 → Does l (charge_slow pc w) M' n g a → Does l (charge pc w) M' n g a
   unfolding charge
   charge-slow pc M' n g a e d =
       subst (λ o. Does l o M' n g a)
@@ -54,13 +54,13 @@ module _ (l : Sizes) (M : Lent) (m : Machine) (f : Fuel) (w : World) (rep : Rep 
     pub back-rep : Rep l (unbank w) M m g
     back-rep = unbank-rep l M m f w rep g back
 
-    pub slow-spent : (pc : OptPc) → g.fuel ≡ 0 → Does l (charge_slow pc w) M m g Charge.Spent
+    pub slow-spent : (pc : Option ℕ) → g.fuel ≡ 0 → Does l (charge_slow pc w) M m g Charge.Spent
     unfolding charge_slow
     slow-spent pc e =
         does l M m g (charge_slow pc w) (unbank w) Charge.Spent
         (chosen (after (unbank w) Charge.Spent) (charge_at pc (unbank w)) (eqb (unbank w).fuel.fuel 0) (ap (λ x. eqb x.fuel 0) (sym back-rep.fuel) ∙ eq-eqb g.fuel 0 e)) back-rep
 
-    pub slow-paid : (pc : OptPc) (M' : Lent) (n : Machine) (h : Fuel) (a : Charge) → (g.fuel ≡ 0 → ⊥) → Does l (charge_at pc (unbank w)) M' n h a → Does l (charge_slow pc w) M' n h a
+    pub slow-paid : (pc : Option ℕ) (M' : Lent) (n : Machine) (h : Fuel) (a : Charge) → (g.fuel ≡ 0 → ⊥) → Does l (charge_at pc (unbank w)) M' n h a → Does l (charge_slow pc w) M' n h a
     unfolding charge_slow
     slow-paid pc M' n h a k d =
         subst (λ o. Does l o M' n h a)

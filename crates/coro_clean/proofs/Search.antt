@@ -14,7 +14,7 @@ use Rattle.heap.specs.Fault.{number_of}
 use Rattle.heap.specs.Heap.{slots_of, coro_of}
 use Rattle.heap.specs.Word.{nil}
 use Rattle.heap.specs.declared.fault.Fault.{Fault}
-use Rattle.heap.specs.declared.heap.Coroutine.TheVariants as RV
+use Rattle.std.specs.Prelude.{Result, Ok, Err, is_ok}
 use Rattle.heap.specs.declared.object.CoroObj.{CoroObj}
 use Rattle.model.specs.State.{is_suspended}
 use Rattle.model.specs.World.{World, After, after, with_finalize}
@@ -89,16 +89,16 @@ module _ (p : ℕ → Bool) where
 -- ---- the test of a word, by the code's tests
 
 module _ (slots : List ℕ) (m : Machine) (l : Sizes) (v : ℕ) where
-  pub starts-not : (g : Fault) → RV.Not g ≡ coro_of (slots_of m.count slots) v → false ≡ starts slots m l v
+  pub starts-not : (g : Fault) → Err g ≡ coro_of (slots_of m.count slots) v → false ≡ starts slots m l v
   starts-not g e = ap (starts_as m l) e
 
-  module _ (i : ℕ) (c : CoroObj) (found : RV.At i c ≡ coro_of (slots_of m.count slots) v) where
+  module _ (i : ℕ) (c : CoroObj) (found : Ok (i, c) ≡ coro_of (slots_of m.count slots) v) where
     pub starts-not-suspended : is_suspended c.state ≡ false → false ≡ starts slots m l v
-    starts-not-suspended e = sym (ap (λ b. b && eqb (number_of (refusal_of m.height m.depth l c)) 0) e) ∙ ap (starts_as m l) found
+    starts-not-suspended e = sym (ap (λ b. b && is_ok (refusal_of m.height m.depth l c)) e) ∙ ap (starts_as m l) found
 
-    pub starts-suspended : (f : Fault) → is_suspended c.state ≡ true → f ≡ refusal_of m.height m.depth l c → eqb (number_of f) 0 ≡ starts slots m l v
+    pub starts-suspended : (f : Result Unit Fault) → is_suspended c.state ≡ true → f ≡ refusal_of m.height m.depth l c → is_ok f ≡ starts slots m l v
     starts-suspended f e r =
-        ap (λ g. eqb (number_of g) 0) r ∙ sym (ap (λ b. b && eqb (number_of (refusal_of m.height m.depth l c)) 0) e) ∙ ap (starts_as m l) found
+        ap (λ (g : Result Unit Fault). is_ok g) r ∙ sym (ap (λ b. b && is_ok (refusal_of m.height m.depth l c)) e) ∙ ap (starts_as m l) found
 
 -- ---- the definition goes the same way
 

@@ -11,8 +11,8 @@ use lib.Seq.{take_at}
 use Rattle.heap.specs.Word.{nil}
 use Rattle.heap.specs.Heap.{slots_of, coro_of}
 use Rattle.heap.specs.Table.{Slot}
-use Rattle.heap.specs.declared.heap.Coroutine as R
-use Rattle.heap.specs.declared.heap.Coroutine.TheVariants as RV
+use Rattle.std.specs.Prelude.{Result, Err}
+use Rattle.heap.specs.declared.fault.Fault.{Fault}
 use Rattle.heap.specs.declared.object.CoroObj.{CoroObj}
 use Rattle.model.specs.State.{is_suspended}
 use Rattle.model.specs.Object.{Rest, Object}
@@ -62,9 +62,9 @@ module _ (l : Sizes) (M : Lent) (m : Machine) (f : Fuel) (w : World) (rep : Rep 
   pub test-same : (c : ℕ) (queue : List ℕ) → test w c queue ≡ starts M.slots m l c
   test-same c queue = go (coro_of (slots_of m.count M.slots) c) refl
     where
-      go : (x : R.Coroutine) → coro_of (slots_of m.count M.slots) c ≡ x → test w c queue ≡ starts_as m l x
-      go (RV.Not g) e = ap (λ k. coro_suspended k && is_entered (coro_enter c Driver.Finalize (with_finalize queue w)).answer) (coro-absent l M m f c w rep g (sym e))
-      go (RV.At i o) e =
+      go : (x : Result (ℕ × CoroObj) Fault) → coro_of (slots_of m.count M.slots) c ≡ x → test w c queue ≡ starts_as m l x
+      go (Err g) e = ap (λ k. coro_suspended k && is_entered (coro_enter c Driver.Finalize (with_finalize queue w)).answer) (coro-absent l M m f c w rep g (sym e))
+      go (Result.Ok (i, o)) e =
           let t = coro-there l M m f c w rep i o (sym e) in
           let shorter = turn-finalize l w M m f rep queue queue (length queue) (run-full queue) in
           ap₂ (λ a b. a && b) (ap coro_suspended t.coro ∙ ap (λ (x : CoroObj). is_suspended x.state) (sym t.is))

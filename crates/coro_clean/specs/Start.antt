@@ -1,11 +1,11 @@
 -- coro.rs: start_finalizer on the lent words: a search of the cleanup queue, and what then happens.
-use Rattle.std.specs.Prelude.{◌≡◌, Bool, true, false, ◌&&◌, List, [], ◌∷◌, ℕ, suc, ◌*◌, ◌≤◌, ◌<◌, length, get_or, drop, eqb}
+use Rattle.std.specs.Prelude.{◌≡◌, Bool, true, false, ◌&&◌, List, [], ◌∷◌, ℕ, suc, ◌*◌, ◌≤◌, ◌<◌, length, get_or, drop, eqb, Result, Err, is_ok}
 use Rattle.lists.specs.Pick.{pick}
 use Rattle.heap.specs.Fault.{number_of}
 use Rattle.heap.specs.Word.{nil}
 use Rattle.heap.specs.Heap.{coro_of, slots_of, TableFits}
-use Rattle.heap.specs.declared.heap.Coroutine.{Coroutine}
-use Rattle.heap.specs.declared.heap.Coroutine.TheVariants as R
+use Rattle.heap.specs.declared.object.CoroObj.{CoroObj}
+use Rattle.heap.specs.declared.fault.Fault.{Fault}
 use Rattle.model.specs.State.{is_suspended}
 use Rattle.model.specs.World.{World, After, after, with_finalize}
 use Rattle.model.specs.Heap.{change_coro}
@@ -29,9 +29,9 @@ first_of p [] = 0
 first_of p (x ∷ xs) = pick (p x) 0 (suc (first_of p xs))
 
 -- a coroutine found in the words: it is suspended, and coro_enter accepts it
-abbrev pub starts_as : Machine → Sizes → Coroutine → Bool
-starts_as m sizes (R.Not f) = false
-starts_as m sizes (R.At i c) = is_suspended c.state && eqb (number_of (refusal_of m.height m.depth sizes c)) 0
+abbrev pub starts_as : Machine → Sizes → Result (ℕ × CoroObj) Fault → Bool
+starts_as m sizes (Err f) = false
+starts_as m sizes (Result.Ok (i, c)) = is_suspended c.state && is_ok (refusal_of m.height m.depth sizes c)
 
 -- the coroutine that a word names
 abbrev pub starts : List ℕ → Machine → Sizes → ℕ → Bool

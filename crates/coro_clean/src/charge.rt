@@ -2,12 +2,12 @@
 ghost use Rattle.std.specs.Prelude.{◌≡◌, false, ◌≤◌};
 ghost use Rattle.model.specs.World.{after};
 ghost use Rattle.model.specs.Cleanup.{charge_done, charge_or, charge_slow, charge};
-ghost use Rattle.model.specs.declared.call.OptPc.TheVariants.{None, Some};
 ghost use Rattle.memory_world.specs.Lendings.{none, cleaning, plain};
 ghost use Rattle.memory_world.specs.Contract.{Met, any, every, if_sound, with, of_mut};
 ghost use Rattle.coro_clean.specs.Charge.{spent, charge_ready, ChargeFits, ReadyFits};
 
 use crate::finalizer::start_finalizer;
+use machine_state::called::Called;
 use machine_state::fuel::{arm_close, unbank};
 use memory_world::machine::{Machine, Sizes};
 use model::coro::Started;
@@ -16,14 +16,6 @@ use model::machine::{Charge, Fuel};
 // What a charge without a pc leaves of the fuel, and answers.
 #[derive(Clone, Copy)]
 pub struct PlainChargeDid {
-    pub fuel: Fuel,
-    pub answer: Charge,
-}
-
-// What a charge leaves of the numbers and of the fuel, and answers.
-#[derive(Clone, Copy)]
-pub struct ChargeDid {
-    pub machine: Machine,
     pub fuel: Fuel,
     pub answer: Charge,
 }
@@ -80,12 +72,12 @@ pub fn charge_plain(fuel: Fuel) -> PlainChargeDid
 }
 
 // A cleanup has started, or a unit is paid.
-pub(crate) fn charge_or(m: Machine, f: Fuel, s: Started) -> ChargeDid
+pub(crate) fn charge_or(m: Machine, f: Fuel, s: Started) -> Called<Charge>
     requires { s.entered ≡ false → 1 ≤ f.fuel }
     ensures { every (λ sizes. Met any sizes (λ w. charge_or (after w s)) none (with m f) (with result.machine result.fuel) result.answer) }
 {
     if s.entered {
-        return ChargeDid {
+        return Called {
             machine: m,
             fuel: f,
             answer: Charge::Close(s.taken),
@@ -94,7 +86,7 @@ pub(crate) fn charge_or(m: Machine, f: Fuel, s: Started) -> ChargeDid
     let did = charge_done(f, s.taken);
     let fuel = did.fuel;
     let answer = did.answer;
-    ChargeDid {
+    Called {
         machine: m,
         fuel,
         answer,
@@ -114,7 +106,7 @@ pub(crate) fn charge_ready(
     sizes: Sizes,
     fuel: Fuel,
     pc: u64,
-) -> ChargeDid
+) -> Called<Charge>
     requires { ReadyFits sizes (cleaning stack.old frames.old chain.old slots.old saved_stack.old saved_frames.old finalize.old plain) m fuel pc }
     ensures { Met if_sound sizes (charge_ready pc) (cleaning (of_mut stack) (of_mut frames) (of_mut chain) (of_mut slots) (of_mut saved_stack) (of_mut saved_frames) (of_mut finalize)) (with m fuel) (with result.machine result.fuel) result.answer }
 {
@@ -150,13 +142,13 @@ pub(crate) fn charge_slow(
     sizes: Sizes,
     fuel: Fuel,
     pc: u64,
-) -> ChargeDid
+) -> Called<Charge>
     requires { ChargeFits sizes (cleaning stack.old frames.old chain.old slots.old saved_stack.old saved_frames.old finalize.old plain) m fuel pc }
     ensures { Met if_sound sizes (charge_slow (Some pc)) (cleaning (of_mut stack) (of_mut frames) (of_mut chain) (of_mut slots) (of_mut saved_stack) (of_mut saved_frames) (of_mut finalize)) (with m fuel) (with result.machine result.fuel) result.answer }
 {
     let f = unbank(fuel);
     if f.fuel == 0 {
-        return ChargeDid {
+        return Called {
             machine: m,
             fuel: f,
             answer: Charge::Spent,
@@ -180,7 +172,7 @@ pub(crate) fn charge_slow(
     let did = charge_done(f, 0);
     let g = did.fuel;
     let answer = did.answer;
-    ChargeDid {
+    Called {
         machine: m,
         fuel: g,
         answer,
@@ -200,13 +192,13 @@ pub fn charge(
     sizes: Sizes,
     fuel: Fuel,
     pc: u64,
-) -> ChargeDid
+) -> Called<Charge>
     requires { ChargeFits sizes (cleaning stack.old frames.old chain.old slots.old saved_stack.old saved_frames.old finalize.old plain) m fuel pc }
     ensures { Met if_sound sizes (charge (Some pc)) (cleaning (of_mut stack) (of_mut frames) (of_mut chain) (of_mut slots) (of_mut saved_stack) (of_mut saved_frames) (of_mut finalize)) (with m fuel) (with result.machine result.fuel) result.answer }
 {
     if fuel.fuel != 0 {
         let f = spend(fuel);
-        return ChargeDid {
+        return Called {
             machine: m,
             fuel: f,
             answer: Charge::Done(0),

@@ -7,20 +7,12 @@ ghost use Rattle.coro_clean.specs.Start.{first_of, starts, MayFits, SearchFits, 
 
 use coro_enter::close::set_closing;
 use coro_enter::enter::{coro_enter, refusal};
-use heap::heap::CoroPlace;
 use heap::value::Word;
+use machine_state::called::Called;
 use machine_state::fuel::{set_finalizing, unbank};
 use memory_world::machine::{Machine, Sizes};
 use model::coro::Started;
 use model::machine::{Driver, Fuel};
-
-// What a search for a cleanup leaves of the numbers and of the fuel, and answers.
-#[derive(Clone, Copy)]
-pub struct StartDid {
-    pub machine: Machine,
-    pub fuel: Fuel,
-    pub answer: Started,
-}
 
 // Whether a word names a suspended coroutine that can be entered.
 pub(crate) fn may_start(slots: &[u64], m: Machine, sizes: Sizes, v: Word) -> bool
@@ -28,15 +20,14 @@ pub(crate) fn may_start(slots: &[u64], m: Machine, sizes: Sizes, v: Word) -> boo
     ensures { result ≡ starts slots.now m sizes v.0 }
 {
     match heap::heap::coro_place(slots, m.count, v) {
-        CoroPlace::Not(_) => false,
-        CoroPlace::At(i) => {
+        Err(_) => false,
+        Ok(i) => {
             let c = heap::slot::coro_at(slots, i);
             let s = c.state;
             if !s.is_suspended() {
                 return false;
             }
-            let f = refusal(m, sizes, c);
-            f.number() == 0
+            refusal(m, sizes, c).is_ok()
         }
     }
 }
@@ -58,7 +49,7 @@ pub(crate) fn first_start(slots: &[u64], finalize: &[u64], m: Machine, sizes: Si
 }
 
 // No cleanup starts: the queue is empty.
-pub(crate) fn start_none(finalize: &mut [u64], m: Machine, fuel: Fuel) -> StartDid
+pub(crate) fn start_none(finalize: &mut [u64], m: Machine, fuel: Fuel) -> Called<Started>
     requires { m.finalize ≤ length finalize.old }
     ensures { every (λ sizes. Met any sizes start_none (queue (of_mut finalize)) (with m fuel) (with result.machine result.fuel) result.answer) }
 {
@@ -72,7 +63,7 @@ pub(crate) fn start_none(finalize: &mut [u64], m: Machine, fuel: Fuel) -> StartD
         entered: false,
         taken: m.finalize as u64,
     };
-    StartDid {
+    Called {
         machine: k,
         fuel: f,
         answer,
@@ -92,7 +83,7 @@ pub(crate) fn start_at(
     sizes: Sizes,
     fuel: Fuel,
     i: usize,
-) -> StartDid
+) -> Called<Started>
     requires { StartFits sizes (cleaning stack.old frames.old chain.old slots.old saved_stack.old saved_frames.old finalize.old plain) m fuel i }
     ensures { Met if_sound sizes (start_at i) (cleaning (of_mut stack) (of_mut frames) (of_mut chain) (of_mut slots) (of_mut saved_stack) (of_mut saved_frames) (of_mut finalize)) (with m fuel) (with result.machine result.fuel) result.answer }
 {
@@ -122,7 +113,7 @@ pub(crate) fn start_at(
         entered: true,
         taken: taken as u64,
     };
-    StartDid {
+    Called {
         machine: last,
         fuel: f,
         answer,
@@ -141,7 +132,7 @@ pub fn start_finalizer(
     m: Machine,
     sizes: Sizes,
     fuel: Fuel,
-) -> StartDid
+) -> Called<Started>
     requires { Ok sizes (cleaning stack.old frames.old chain.old slots.old saved_stack.old saved_frames.old finalize.old plain) (with m fuel) }
     ensures { Met if_sound sizes start_finalizer (cleaning (of_mut stack) (of_mut frames) (of_mut chain) (of_mut slots) (of_mut saved_stack) (of_mut saved_frames) (of_mut finalize)) (with m fuel) (with result.machine result.fuel) result.answer }
 {

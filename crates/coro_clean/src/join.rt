@@ -6,70 +6,72 @@ ghost use Rattle.memory_world.specs.Contract.{Met, any, every, only, with, of_mu
 ghost use Rattle.coro_clean.specs.Join.{JoinFits};
 
 use heap::fault::Fault;
-use heap::heap::CoroPlace;
 use heap::value::Word;
-use machine_state::called::Called;
+use machine_state::called::{Called, Did};
 use machine_state::fuel::set_finalizing;
 use memory_world::machine::Machine;
 use model::call::Answer;
-use model::coro::WordOr;
 use model::machine::Fuel;
 
-// What spawn_task leaves of the numbers, and answers.
-#[derive(Clone, Copy)]
-pub struct TaskDid {
-    pub machine: Machine,
-    pub answer: WordOr,
-}
-
 // coro.rs: spawn_task.
-pub fn spawn_task(slots: &mut [u64], ready: &mut [u64], m: Machine, v: Word) -> TaskDid
+pub fn spawn_task(
+    slots: &mut [u64],
+    ready: &mut [u64],
+    m: Machine,
+    v: Word,
+) -> Did<Result<u64, Fault>>
     requires { JoinFits (tasks slots.old ready.old plain) m }
     ensures { every (λ sizes. Met any sizes (spawn_task v.0) (tasks (of_mut slots) (of_mut ready)) (only m) (only result.machine) result.answer) }
 {
     match heap::heap::coro_place(slots, m.count, v) {
-        CoroPlace::Not(_) => TaskDid {
+        Err(_) => Did {
             machine: m,
-            answer: WordOr::Refused(Fault::TypeError),
+            answer: Err(Fault::TypeError),
         },
-        CoroPlace::At(i) => {
+        Ok(i) => {
             if heap::field::task_at(slots, i) {
-                return TaskDid {
+                return Did {
                     machine: m,
-                    answer: WordOr::Word(v.0),
+                    answer: Ok(v.0),
                 };
             }
             let s = heap::field::state_at(slots, i);
             if !s.is_resumable() {
-                return TaskDid {
+                return Did {
                     machine: m,
-                    answer: WordOr::Word(v.0),
+                    answer: Ok(v.0),
                 };
             }
             heap::field::put_task(slots, i);
             memory_tables::queue::push_back(ready, m.ready, v.0);
             let mut n = m;
             n.ready = m.ready + 1;
-            TaskDid {
+            Did {
                 machine: n,
-                answer: WordOr::Word(v.0),
+                answer: Ok(v.0),
             }
         }
     }
 }
 
 // 01: "Hand over".
-pub fn hand_over(slots: &mut [u64], finalize: &mut [u64], m: Machine, fuel: Fuel, v: Word) -> Called
+pub fn hand_over(
+    slots: &mut [u64],
+    finalize: &mut [u64],
+    m: Machine,
+    fuel: Fuel,
+    v: Word,
+) -> Called<Answer>
     requires { JoinFits (cleanups slots.old finalize.old plain) m }
     ensures { every (λ sizes. Met any sizes (hand_over v.0) (cleanups (of_mut slots) (of_mut finalize)) (with m fuel) (with result.machine result.fuel) result.answer) }
 {
     match heap::heap::coro_place(slots, m.count, v) {
-        CoroPlace::Not(f) => Called {
+        Err(f) => Called {
             machine: m,
             fuel,
             answer: Answer::Refused(f),
         },
-        CoroPlace::At(i) => {
+        Ok(i) => {
             let s = heap::field::state_at(slots, i);
             if !s.is_suspended() {
                 return Called {

@@ -3,14 +3,12 @@ use Rattle.std.proofs.Common.{◌≡◌, ℕ, ◌+◌, ◌*◌, ◌%◌, ◌^◌
 use Rattle.lists.specs.Pick.{pick}
 use Rattle.lists.specs.Parts.{splice, pad}
 use Rattle.lists.proofs.Tests.{never}
-use Rattle.heap.specs.Fault.{is_none}
 use Rattle.heap.specs.Charge as Charge
 use Rattle.heap.specs.Table.{Slot}
 use Rattle.heap.specs.Heap.{slots_of, out, alloc_of, TableFits}
 use Rattle.heap.specs.declared.fault.Fault.{Fault}
 use Rattle.heap.specs.declared.heap.Heap.{Heap}
-use Rattle.heap.specs.declared.heap.Made as HM
-use Rattle.heap.specs.declared.heap.Made.TheVariants as H
+use Rattle.std.specs.Prelude.{Result, Ok, Err}
 use Rattle.heap.specs.declared.object.CoroObj.{CoroObj}
 use Rattle.heap.specs.declared.object.Object as HO
 use Rattle.heap.specs.declared.object.Object.TheVariants as O
@@ -24,7 +22,6 @@ use Rattle.model.specs.Heap.{fits, slots_full, refuse, alloc}
 use Rattle.model.specs.Rows.{held_rows, lowest_free, free_row, rows_full}
 use Rattle.model.specs.Coro.{new_regs, new_core, new_rest, coro_create}
 use Rattle.model.specs.Sound.{row_words, sound}
-use Rattle.model.specs.declared.coro.WordOr.{WordOr}
 use Rattle.model.specs.declared.machine.Cont.{Cont}
 use Rattle.model.specs.declared.machine.Frame.{Frame}
 use Rattle.model.specs.declared.machine.Fuel.{Fuel}
@@ -49,8 +46,7 @@ use Rattle.memory_world.proofs.Does.{does}
 use Rattle.machine_state.specs.Numbers.{heap_of, allocated}
 use Rattle.coro_create.specs.Numbers.{sequenced}
 use Rattle.coro_create.specs.Row.{held_in}
-use Rattle.coro_create.specs.Create.{bytes_of, spot_of, new_object, copied_of, WriteFits, Writes}
-use Rattle.coro_create.specs.declared.create.Spot.{Spot}
+use Rattle.coro_create.specs.Create.{bytes_of, unless_lacking, spot_of, new_object, copied_of, WriteFits, Writes}
 use Rattle.coro_create.proofs.Held.{free-same}
 use Rattle.machine_state.proofs.Pushed.{alloc-done, alloc-lacks}
 use Rattle.machine_state.proofs.Allocation.{fits-same, full-same, alloc-refused, alloc-made}
@@ -59,15 +55,13 @@ use Rattle.coro_create.proofs.NewRow.{regs-new, frames-new, regs_written}
 
 -- ---- the tests of the code and of the model
 
-abbrev spot_by : Bool → Bool → Bool → ℕ → Spot
-spot_by a b c row =
-    let fault = pick a (pick b Fault.None Fault.Full) Fault.OutOfMemory in
-    pick (is_none fault) (pick c (Spot.Lacks Fault.Full) (Spot.Row row)) (Spot.Lacks fault)
+abbrev spot_by : Bool → Bool → Bool → ℕ → Result ℕ Fault
+spot_by a b c row = unless_lacking (pick a (pick b (Ok tt) (Err Fault.Full)) (Err Fault.OutOfMemory)) (pick c (Err Fault.Full) (Ok row))
 
-abbrev create_by : Bool → Bool → Bool → World → After WordOr → After WordOr
+abbrev create_by : Bool → Bool → Bool → World → After (Result ℕ Fault) → After (Result ℕ Fault)
 create_by a b c w o = pick (not a) (refuse w Fault.OutOfMemory) (pick (b || c) (refuse w Fault.Full) o)
 
-lacking : (a b c : Bool) (row : ℕ) (w : World) (o : After WordOr) (g : Fault) → Spot.Lacks g ≡ spot_by a b c row → create_by a (not b) c w o ≡ refuse w g
+lacking : (a b c : Bool) (row : ℕ) (w : World) (o : After (Result ℕ Fault)) (g : Fault) → Err g ≡ spot_by a b c row → create_by a (not b) c w o ≡ refuse w g
 unfolding pick
 lacking true true true row w o g e = let z : Fault.Full ≡ g = cc in ap (refuse w) z
 lacking true true false row w o g e = never cc
@@ -78,18 +72,18 @@ record Free (i rows row : ℕ) : Type 0 where
   is : i ≡ row
   below : i < rows
 
-free : (a b : Bool) (i rows row : ℕ) (w : World) (o : After WordOr) → Spot.Row i ≡ spot_by a b (leb rows row) row → (create_by a (not b) (leb rows row) w o ≡ o) × Free i rows row
+free : (a b : Bool) (i rows row : ℕ) (w : World) (o : After (Result ℕ Fault)) → Ok i ≡ spot_by a b (leb rows row) row → (create_by a (not b) (leb rows row) w o ≡ o) × Free i rows row
 unfolding pick
 free a b i rows row w o = go a b (leb rows row) refl
   where
-    go : (a b c : Bool) → leb rows row ≡ c → Spot.Row i ≡ spot_by a b c row → (create_by a (not b) c w o ≡ o) × Free i rows row
+    go : (a b c : Bool) → leb rows row ≡ c → Ok i ≡ spot_by a b c row → (create_by a (not b) c w o ≡ o) × Free i rows row
     go true true true p e = never cc
     go true true false p e = let z : i ≡ row = cc in (refl, record { is = z; below = subst (λ n. n < rows) (sym z) (leb-false rows row p) })
     go true false c p e = never cc
     go false b c p e = never cc
 
 -- an allocation of a coroutine, by what its arguments are
-pub alloc_told : (ws ws' : List ℕ) (h h₀ : Heap) (b b₀ : ℕ) (o o₀ : CoroObj) (r r₀ : HM.Made) → out r ws' ≡ alloc_of ws h b (O.Coro o) → r ≡ r₀ → h ≡ h₀ → b ≡ b₀ → o ≡ o₀
+pub alloc_told : (ws ws' : List ℕ) (h h₀ : Heap) (b b₀ : ℕ) (o o₀ : CoroObj) (r r₀ : Result (Word × Heap) Fault) → out r ws' ≡ alloc_of ws h b (O.Coro o) → r ≡ r₀ → h ≡ h₀ → b ≡ b₀ → o ≡ o₀
     → out r₀ ws' ≡ alloc_of ws h₀ b₀ (O.Coro o₀)
 alloc_told ws ws' h h₀ b b₀ o o₀ r r₀ e er eh eb eo = ap (λ x. out x ws') (sym er) ∙ e ∙ λ i. alloc_of ws (eh i) (eb i) (O.Coro (eo i))
 
@@ -140,10 +134,10 @@ module _ (l : Sizes) (M : Lent) (m : Machine) (fu : Fuel) (w : World) (rep : Rep
       ∙ ap₂ (λ b c. create_by (Charge.fits m.used l.memory (bytes_of regs l.costs.coro l.costs.frame)) b c w (alloc bytes core next)) (full-same l M m fu w rep)
       (ap₂ (λ a b. leb a b) (sym rep.sizes.rows) row_is)
 
-  pub not-created : (g : Fault) → Spot.Lacks g ≡ spot_of xs m l regs → Does l (coro_create f closure args w) M m fu (WordOr.Refused g)
-  not-created g e = does l M m fu (coro_create f closure args w) w (WordOr.Refused g) (model ∙ lacking _ _ _ row w _ g e) rep
+  pub not-created : (g : Fault) → Err g ≡ spot_of xs m l regs → Does l (coro_create f closure args w) M m fu (Err g)
+  not-created g e = does l M m fu (coro_create f closure args w) w (Err g) (model ∙ lacking _ _ _ row w _ g e) rep
 
-  module _ (i : ℕ) (told : Spot.Row i ≡ spot_of xs m l regs) where
+  module _ (i : ℕ) (told : Ok i ≡ spot_of xs m l regs) where
     opened : (coro_create f closure args w ≡ alloc bytes core next) × Free i l.rows row
     opened = let z = free (Charge.fits m.used l.memory (bytes_of regs l.costs.coro l.costs.frame)) (ltb m.count l.slots) i l.rows row w (alloc bytes core next) told in (model ∙ z.0, z.1)
 
@@ -219,21 +213,21 @@ module _ (l : Sizes) (M : Lent) (m : Machine) (fu : Fuel) (w : World) (rep : Rep
     next-rep = turn-seq l w M m fu rep ((m.seq + 1) % 2 ^ 64) ((w.seq + 1) % 2 ^ 64) (ap (λ k. (k + 1) % 2 ^ 64) rep.seq)
 
     module _ (slots' : List ℕ) where
-      abbrev Allocated : HM.Made → Type 0
+      abbrev Allocated : Result (Word × Heap) Fault → Type 0
       Allocated r = out r slots' ≡ alloc_of M.slots (heap_of m l) (bytes_of regs l.costs.object l.costs.frame) (O.Coro (new_object m.seq i regs))
 
-      as-model : (r : HM.Made) → Allocated r → out r slots' ≡ alloc_of M.slots (heap_of m l) bytes (to_object core)
+      as-model : (r : Result (Word × Heap) Fault) → Allocated r → out r slots' ≡ alloc_of M.slots (heap_of m l) bytes (to_object core)
       as-model r e = e ∙ ap₂ (alloc_of M.slots (heap_of m l)) bytes-are object-is
 
       -- 01: "(9; the number has moved)"
-      pub not-charged : (q : Machine) (g : Fault) → q ≡ sequenced m → Allocated (H.Refused g) → Does l (coro_create f closure args w) (on_slots slots' M) q fu (WordOr.Refused g)
+      pub not-charged : (q : Machine) (g : Fault) → q ≡ sequenced m → Allocated (Err g) → Does l (coro_create f closure args w) (on_slots slots' M) q fu (Err g)
       not-charged q g eq e =
-          subst₂ (λ z y. Does l z (on_slots slots' M) y fu (WordOr.Refused g)) (sym opened.0) (sym eq)
-          (alloc-refused l M (sequenced m) fu next next-rep bytes core slots' g (alloc-lacks M.slots (heap_of m l) bytes (to_object core) slots' g (as-model (H.Refused g) e)))
+          subst₂ (λ z y. Does l z (on_slots slots' M) y fu (Err g)) (sym opened.0) (sym eq)
+          (alloc-refused l M (sequenced m) fu next next-rep bytes core slots' g (alloc-lacks M.slots (heap_of m l) bytes (to_object core) slots' g (as-model (Err g) e)))
 
-      pub was-created : TableFits M.slots l.slots → (q r : Machine) (v : Word) (h' : Heap) (saved_stack' saved_frames' : List ℕ) → q ≡ sequenced m → r ≡ allocated q h' → Allocated (H.Done v h')
+      pub was-created : TableFits M.slots l.slots → (q r : Machine) (v : Word) (h' : Heap) (saved_stack' saved_frames' : List ℕ) → q ≡ sequenced m → r ≡ allocated q h' → Allocated (Ok (v, h'))
           → Writes M.saved_stack M.saved_frames saved_stack' saved_frames' l i regs f closure array n
-          → Does l (coro_create f closure args w) (on_slots slots' (on_saved saved_stack' saved_frames' M)) r fu (WordOr.Word v.0)
+          → Does l (coro_create f closure args w) (on_slots slots' (on_saved saved_stack' saved_frames' M)) r fu (Ok v.0)
       was-created room q r v h' saved_stack' saved_frames' eq er e k =
           let N = on_slots slots' (on_saved saved_stack' saved_frames' M) in
           let R : List ℕ = new_regs (func s f).regs args in
@@ -250,8 +244,8 @@ module _ (l : Sizes) (M : Lent) (m : Machine) (fu : Fuel) (w : World) (rep : Rep
           let up : SavedFrames (frames_size s) (set gs i B) saved_frames' =
           subst (λ z. SavedFrames (frames_size s) (set gs i B) z) (sym k.frames)
           (frames-row (frames_size s) gs M.saved_frames i (i * l.depth) (frame f 0 closure Cont.Coro) rep.saved_frames frames-at deep) in
-          subst₂ (λ z y. Does l z N y fu (WordOr.Word v.0)) (sym opened.0) (sym (er ∙ ap (λ x. allocated x h') eq))
+          subst₂ (λ z y. Does l z N y fu (Ok v.0)) (sym opened.0) (sym (er ∙ ap (λ x. allocated x h') eq))
           (alloc-made l M (sequenced m) fu next next-rep bytes core slots' saved_stack' saved_frames' h' v
-          (alloc-done M.slots (heap_of m l) bytes (to_object core) slots' v h' (as-model (H.Done v h') e)) room
+          (alloc-done M.slots (heap_of m l) bytes (to_object core) slots' v h' (as-model (Ok (v, h')) e)) room
           (subst (λ z. SavedStack (row_words s) z saved_stack') (ap (λ j. set rs j R) at-free ∙ regs-new w.slots f closure w.seq (free_row w) (func s f).regs R nobodys s.limits.rows) on)
           (subst (λ z. SavedFrames (frames_size s) z saved_frames') (ap (λ j. set gs j B) at-free ∙ frames-new w.slots f closure w.seq (free_row w) (func s f).regs R nobodys s.limits.rows) up))

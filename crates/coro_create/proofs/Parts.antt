@@ -2,7 +2,6 @@
 use Rattle.std.proofs.Common.{◌≡◌, ℕ, ◌<◌, ◌≤◌, Bool, true, false, leb, List, sym, refl, ap, ◌∙◌, arith, eq-eqb, ne_eqb, le-leb, leb-true}
 use borrow.Author.Tests.{lt-leb}
 use Rattle.lists.specs.Pick.{pick, pick_true, pick-false}
-use Rattle.heap.specs.Fault.{number_of, is_none}
 use Rattle.heap.specs.Heap.{lacks_of}
 use Rattle.heap.specs.Table.{Slot}
 use Rattle.heap.specs.declared.fault.Fault.{Fault}
@@ -12,30 +11,24 @@ use Rattle.memory_world.specs.declared.machine.Machine.{Machine}
 use Rattle.memory_world.specs.declared.machine.Sizes.{Sizes}
 use Rattle.machine_state.specs.Numbers.{heap_of}
 use Rattle.coro_create.specs.Row.{held_in}
-use Rattle.coro_create.specs.Create.{bytes_of, row_or, spot_of, copied_of}
-use Rattle.coro_create.specs.declared.create.Spot.{Spot}
+use Rattle.coro_create.specs.Create.{bytes_of, row_or, unless_lacking, spot_of, copied_of}
+use Rattle.std.specs.Prelude.{Result, Ok, Err}
 
 -- ---- the row of a new coroutine, or what is lacking
 
-module _ (xs : List (Slot H.Object)) (m : Machine) (l : Sizes) (regs : ℕ) (g : Fault) (is : g ≡ lacks_of (heap_of m l) (bytes_of regs l.costs.coro l.costs.frame)) where
+module _ (xs : List (Slot H.Object)) (m : Machine) (l : Sizes) (regs : ℕ) where
   abbrev row : ℕ
   row = lowest_free l.rows 0 (held_in xs)
 
-  by-fault : (b : Bool) → is_none g ≡ b → spot_of xs m l regs ≡ pick b (row_or l.rows row) (Spot.Lacks g)
-  by-fault b e = ap (λ x. pick (is_none x) (row_or l.rows row) (Spot.Lacks x)) (sym is) ∙ ap (λ b. pick b (row_or l.rows row) (Spot.Lacks g)) e
-
-  pub spot-lacks : (number_of g ≡ 0 → ⊥) → Spot.Lacks g ≡ spot_of xs m l regs
-  spot-lacks n = sym (by-fault false (ne_eqb (number_of g) 0 n) ∙ pick-false _ _)
-
-  module _ (none : number_of g ≡ 0) (i : ℕ) (found : i ≡ row) where
-    by_row : (b : Bool) → leb l.rows i ≡ b → spot_of xs m l regs ≡ pick b (Spot.Lacks Fault.Full) (Spot.Row i)
+  module _ (u : Unit) (none : Ok u ≡ lacks_of (heap_of m l) (bytes_of regs l.costs.coro l.costs.frame)) (i : ℕ) (found : i ≡ row) where
+    by_row : (b : Bool) → leb l.rows i ≡ b → spot_of xs m l regs ≡ pick b (Err Fault.Full) (Ok i)
     by_row b e =
-        by-fault true (eq-eqb (number_of g) 0 none) ∙ pick_true _ _ ∙ ap (row_or l.rows) (sym found) ∙ ap (λ b. pick b (Spot.Lacks Fault.Full) (Spot.Row i)) e
+        ap (λ (x : Result Unit Fault). unless_lacking x (row_or l.rows row)) (sym none) ∙ ap (row_or l.rows) (sym found) ∙ ap (λ b. pick b (Err Fault.Full) (Ok i)) e
 
-    pub spot-full : l.rows ≤ i → Spot.Lacks Fault.Full ≡ spot_of xs m l regs
+    pub spot-full : l.rows ≤ i → Err Fault.Full ≡ spot_of xs m l regs
     spot-full h = sym (by_row true (le-leb l.rows i h) ∙ pick_true _ _)
 
-    pub spot-row : i < l.rows → Spot.Row i ≡ spot_of xs m l regs
+    pub spot-row : i < l.rows → Ok i ≡ spot_of xs m l regs
     spot-row h = sym (by_row false (lt-leb l.rows i h) ∙ pick-false _ _)
 
 -- ---- the arguments that are copied

@@ -1,10 +1,9 @@
 -- coro.rs: the parts of coro_create, by its numbers.
-use Rattle.std.specs.Prelude.{◌≡◌, ℕ, ◌+◌, ◌*◌, ◌^◌, ◌<◌, ◌≤◌, false, List, length, take, negsuc, nat_le, slice_index}
+use Rattle.std.specs.Prelude.{◌≡◌, ℕ, ◌+◌, ◌*◌, ◌^◌, ◌<◌, ◌≤◌, false, List, length, take, negsuc, nat_le, slice_index, Result, Err}
 use Rattle.lists.specs.Pick.{pick}
 use Rattle.lists.specs.Parts.{splice, pad}
 use Rattle.heap.specs.Coding.{bits_of}
 use Rattle.heap.specs.Word.{nil}
-use Rattle.heap.specs.Fault.{is_none}
 use Rattle.heap.specs.Heap.{lacks_of, TableFits}
 use Rattle.heap.specs.Table.{Slot}
 use Rattle.heap.specs.declared.fault.Fault.{Fault}
@@ -21,7 +20,6 @@ use Rattle.memory_world.specs.declared.machine.Machine.{Machine}
 use Rattle.memory_world.specs.declared.machine.Sizes.{Sizes}
 use Rattle.machine_state.specs.Numbers.{heap_of}
 use Rattle.coro_create.specs.Row.{held_in}
-use Rattle.coro_create.specs.declared.create.Spot.{Spot}
 use Rattle.memory_world.specs.Lendings.{making, plain}
 
 -- 01: "8 times registers + C + F", or A for C
@@ -30,13 +28,16 @@ bytes_of regs size frame = 8 * regs + size + frame
 
 -- ---- the row of a new coroutine, or what is lacking
 
-abbrev pub row_or : ℕ → ℕ → Spot
-row_or rows row = pick (nat_le rows row) (Spot.Lacks Fault.Full) (Spot.Row row)
+abbrev pub row_or : ℕ → ℕ → Result ℕ Fault
+row_or rows row = pick (nat_le rows row) (Err Fault.Full) (Result.Ok row)
 
-abbrev pub spot_of : List (Slot H.Object) → Machine → Sizes → ℕ → Spot
+abbrev pub unless_lacking : Result Unit Fault → Result ℕ Fault → Result ℕ Fault
+unless_lacking (Result.Ok u) row = row
+unless_lacking (Err f) row = Err f
+
+abbrev pub spot_of : List (Slot H.Object) → Machine → Sizes → ℕ → Result ℕ Fault
 spot_of xs m sizes regs =
-    let fault = lacks_of (heap_of m sizes) (bytes_of regs sizes.costs.coro sizes.costs.frame) in
-    pick (is_none fault) (row_or sizes.rows (lowest_free sizes.rows 0 (held_in xs))) (Spot.Lacks fault)
+    unless_lacking (lacks_of (heap_of m sizes) (bytes_of regs sizes.costs.coro sizes.costs.frame)) (row_or sizes.rows (lowest_free sizes.rows 0 (held_in xs)))
 
 pub record SpotFits (slots : List ℕ) (m : Machine) (sizes : Sizes) (regs : ℕ) : Type 0 where
   pub words : TableFits slots m.count

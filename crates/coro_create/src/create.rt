@@ -12,25 +12,11 @@ use heap::fault::Fault;
 use heap::int::MINUS_ONE;
 use heap::object::{CoroObj, CoroState, Object};
 use heap::value::Word;
+use machine_state::called::Did;
 use machine_state::numbers::{allocated, heap_of};
 use memory_world::machine::{Machine, Sizes};
-use model::coro::WordOr;
 use model::machine::{Cont, Frame};
 use model::program::MOST_ARGS;
-
-// What a creation leaves of the numbers, and answers.
-#[derive(Clone, Copy)]
-pub struct CreateDid {
-    pub machine: Machine,
-    pub answer: WordOr,
-}
-
-// The row of a new coroutine, or what is lacking.
-#[derive(Clone, Copy)]
-pub(crate) enum Spot {
-    Row(usize),
-    Lacks(Fault),
-}
 
 // 8 times registers, an object's size, and a frame's.
 fn bytes(regs: u64, size: u64, frame: u64) -> u64
@@ -41,21 +27,18 @@ fn bytes(regs: u64, size: u64, frame: u64) -> u64
 }
 
 // 01: "tests 8 times registers + C + F against the limit (9), then 14"
-fn find_spot(slots: &[u64], m: Machine, sizes: Sizes, regs: u64) -> Spot
+fn find_spot(slots: &[u64], m: Machine, sizes: Sizes, regs: u64) -> Result<usize, Fault>
     requires { SpotFits slots.now m sizes regs }
     ensures { result ≡ spot_of (slots_of m.count slots.now) m sizes regs }
 {
     let costs = sizes.costs;
     let h = heap_of(m, sizes);
-    let fault = h.lacks(bytes(regs, costs.coro, costs.frame));
-    if fault.number() != 0 {
-        return Spot::Lacks(fault);
-    }
+    h.lacks(bytes(regs, costs.coro, costs.frame))?;
     let row = lowest_free_row(slots, m.count, sizes.rows);
     if sizes.rows <= row {
-        return Spot::Lacks(Fault::Full);
+        return Err(Fault::Full);
     }
-    Spot::Row(row)
+    Ok(row)
 }
 
 // A new coroutine's record.
@@ -130,27 +113,27 @@ pub fn coro_create(
     closure: u64,
     args: [u64; MOST_ARGS],
     n: usize,
-) -> CreateDid
+) -> Did<Result<u64, Fault>>
     requires { CreateFits sizes slots.old saved_stack.old saved_frames.old setup.now m f n }
     ensures { Met if_sound sizes (coro_create f closure (take n args)) (making (of_mut slots) (of_mut saved_stack) (of_mut saved_frames) (of_ref setup)) (only m) (only result.machine) result.answer }
 {
     let regs = memory_tables::program::regs_at(setup, f as usize);
     match find_spot(slots, m, sizes, regs) {
-        Spot::Lacks(g) => CreateDid {
+        Err(g) => Did {
             machine: m,
-            answer: WordOr::Refused(g),
+            answer: Err(g),
         },
-        Spot::Row(row) => {
+        Ok(row) => {
             let costs = sizes.costs;
             let o = Object::Coro(new_object(m.seq, row as u64, regs));
             let q = sequenced(m);
             let charge = bytes(regs, costs.object, costs.frame);
             match heap::heap::alloc(slots, heap_of(q, sizes), charge, o) {
-                heap::heap::Made::Refused(g) => CreateDid {
+                Err(g) => Did {
                     machine: q,
-                    answer: WordOr::Refused(g),
+                    answer: Err(g),
                 },
-                heap::heap::Made::Done(v, h) => {
+                Ok((v, h)) => {
                     write_row(
                         saved_stack,
                         saved_frames,
@@ -162,9 +145,9 @@ pub fn coro_create(
                         args,
                         n,
                     );
-                    CreateDid {
+                    Did {
                         machine: allocated(q, h),
-                        answer: WordOr::Word(v.0),
+                        answer: Ok(v.0),
                     }
                 }
             }

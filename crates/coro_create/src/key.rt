@@ -6,41 +6,35 @@ ghost use Rattle.memory_world.specs.Lendings.{table};
 ghost use Rattle.memory_world.specs.Contract.{Met, if_sound, only, of_mut};
 
 use heap::fault::Fault;
-use heap::int::Exact;
+use machine_state::called::Did;
 use machine_state::numbers::{allocated, heap_of};
 use memory_world::machine::{Machine, Sizes};
-use model::coro::AutoKey;
-
-// What a new key leaves of the numbers, and answers.
-#[derive(Clone, Copy)]
-pub struct KeyDid {
-    pub machine: Machine,
-    pub answer: AutoKey,
-}
 
 // coro.rs: auto_key. The key after the largest so far; one that is not inline is a new object.
-pub fn auto_key(slots: &mut [u64], m: Machine, sizes: Sizes, largest: u64) -> KeyDid
+pub fn auto_key(
+    slots: &mut [u64],
+    m: Machine,
+    sizes: Sizes,
+    largest: u64,
+) -> Did<Result<(u64, u64), Fault>>
     requires { Room slots.old (heap_of m sizes) }
     ensures { Met if_sound sizes (auto_key largest) (table (of_mut slots)) (only m) (only result.machine) result.answer }
 {
     match heap::int::next_key(largest) {
-        Exact::Over => KeyDid {
+        None => Did {
             machine: m,
-            answer: AutoKey::Refused(Fault::ArithOverflow),
+            answer: Err(Fault::ArithOverflow),
         },
-        Exact::Fits(n) => {
+        Some(n) => {
             let costs = sizes.costs;
             match heap::heap::encode_int(slots, heap_of(m, sizes), costs.int, n) {
-                heap::heap::Made::Refused(g) => KeyDid {
+                Err(g) => Did {
                     machine: m,
-                    answer: AutoKey::Refused(g),
+                    answer: Err(g),
                 },
-                heap::heap::Made::Done(v, h) => KeyDid {
+                Ok((v, h)) => Did {
                     machine: allocated(m, h),
-                    answer: AutoKey::Key {
-                        key: v.0,
-                        largest: n,
-                    },
+                    answer: Ok((v.0, n)),
                 },
             }
         }

@@ -13,7 +13,7 @@ use Rattle.model.specs.Coro.{coro_send, outcome_of, deliver, deliver_return}
 use Rattle.model.specs.declared.coro.Event.{Event}
 use Rattle.model.specs.declared.machine.Driver.{Driver}
 use Rattle.model.specs.declared.machine.Fuel.{Fuel}
-use Rattle.model.specs.declared.machine.Outcome.{Outcome}
+use Rattle.std.specs.Prelude.{Result, Some, Ok, Err}
 use Rattle.model.specs.declared.machine.Stop.{Stop}
 use Rattle.memory_tables.specs.Does.{RegFits, Puts}
 use Rattle.memory_world.specs.Memory.{Lent, on_stack, on_frames, Rep}
@@ -46,56 +46,56 @@ module _ (l : Sizes) (M : Lent) (m : Machine) (f : Fuel) (w : World) (rep : Rep 
   pub put : (stack' : List ℕ) (r v : ℕ) → Puts M.stack M.frames stack' m.height m.depth r v → Rep l (put_reg r v w) (on_stack stack' M) m f
   put stack' r v k = turn-stack l w M m f rep (put_at w.frames r v w.stack) stack' m.height (k w.stack w.frames rep.stack rep.frames)
 
-  pub told-host : (s : Stop) (n : Machine) → n ≡ stopped s m → Rep l (with_outcome (Outcome.Some s) w) M n f
+  pub told-host : (s : Stop) (n : Machine) → n ≡ stopped s m → Rep l (with_outcome (Some s) w) M n f
   told-host s n e =
-      subst (λ k. Rep l (with_outcome (Outcome.Some s) w) M k f) (sym e)
-      (turn-outcome l w M m f rep (Outcome.Some s))
+      subst (λ k. Rep l (with_outcome (Some s) w) M k f) (sym e)
+      (turn-outcome l w M m f rep (Some s))
 
 -- ---- by the event
 
 module _ (l : Sizes) (M : Lent) (m : Machine) (f : Fuel) (w : World) (e : Event) where
-  pub resume-yielded : (dst p k : ℕ) → e ≡ Event.Yielded p k → Rep l (coro_send dst p w) M m f → Does l (deliver (Driver.Resume dst) e w) M m f Fault.None
+  pub resume-yielded : (dst p k : ℕ) → e ≡ Event.Yielded p k → Rep l (coro_send dst p w) M m f → Does l (deliver (Driver.Resume dst) e w) M m f (Ok tt)
   unfolding deliver
-  resume-yielded dst p k q rep = does l M m f (deliver (Driver.Resume dst) e w) (coro_send dst p w) Fault.None (ap (λ x. deliver (Driver.Resume dst) x w) q) rep
+  resume-yielded dst p k q rep = does l M m f (deliver (Driver.Resume dst) e w) (coro_send dst p w) (Ok tt) (ap (λ x. deliver (Driver.Resume dst) x w) q) rep
 
-  pub resume-awaiting : (dst p : ℕ) → e ≡ Event.Awaiting p → Rep l (coro_send dst p w) M m f → Does l (deliver (Driver.Resume dst) e w) M m f Fault.None
+  pub resume-awaiting : (dst p : ℕ) → e ≡ Event.Awaiting p → Rep l (coro_send dst p w) M m f → Does l (deliver (Driver.Resume dst) e w) M m f (Ok tt)
   unfolding deliver
-  resume-awaiting dst p q rep = does l M m f (deliver (Driver.Resume dst) e w) (coro_send dst p w) Fault.None (ap (λ x. deliver (Driver.Resume dst) x w) q) rep
+  resume-awaiting dst p q rep = does l M m f (deliver (Driver.Resume dst) e w) (coro_send dst p w) (Ok tt) (ap (λ x. deliver (Driver.Resume dst) x w) q) rep
 
-  pub resume-ignored : (dst : ℕ) → e ≡ Event.CloseIgnored → Rep l w M m f → Does l (deliver (Driver.Resume dst) e w) M m f Fault.CloseIgnored
+  pub resume-ignored : (dst : ℕ) → e ≡ Event.CloseIgnored → Rep l w M m f → Does l (deliver (Driver.Resume dst) e w) M m f (Err Fault.CloseIgnored)
   unfolding deliver
-  resume-ignored dst q rep = does l M m f (deliver (Driver.Resume dst) e w) w Fault.CloseIgnored (ap (λ x. deliver (Driver.Resume dst) x w) q) rep
+  resume-ignored dst q rep = does l M m f (deliver (Driver.Resume dst) e w) w (Err Fault.CloseIgnored) (ap (λ x. deliver (Driver.Resume dst) x w) q) rep
 
   module _ (has val iter : ℕ) where
-    pub iter-yielded : (p k : ℕ) → e ≡ Event.Yielded p k → Rep l (iter_yielded has val iter p k w) M m f → Does l (deliver (Driver.Iter has val iter) e w) M m f Fault.None
+    pub iter-yielded : (p k : ℕ) → e ≡ Event.Yielded p k → Rep l (iter_yielded has val iter p k w) M m f → Does l (deliver (Driver.Iter has val iter) e w) M m f (Ok tt)
     unfolding deliver
     iter-yielded p k q rep =
-        does l M m f (deliver (Driver.Iter has val iter) e w) (iter_yielded has val iter p k w) Fault.None (ap (λ x. deliver (Driver.Iter has val iter) x w) q) rep
+        does l M m f (deliver (Driver.Iter has val iter) e w) (iter_yielded has val iter p k w) (Ok tt) (ap (λ x. deliver (Driver.Iter has val iter) x w) q) rep
 
-    pub iter-awaiting : (p : ℕ) → e ≡ Event.Awaiting p → Rep l w M m f → Does l (deliver (Driver.Iter has val iter) e w) M m f Fault.TypeError
+    pub iter-awaiting : (p : ℕ) → e ≡ Event.Awaiting p → Rep l w M m f → Does l (deliver (Driver.Iter has val iter) e w) M m f (Err Fault.TypeError)
     unfolding deliver
-    iter-awaiting p q rep = does l M m f (deliver (Driver.Iter has val iter) e w) w Fault.TypeError (ap (λ x. deliver (Driver.Iter has val iter) x w) q) rep
+    iter-awaiting p q rep = does l M m f (deliver (Driver.Iter has val iter) e w) w (Err Fault.TypeError) (ap (λ x. deliver (Driver.Iter has val iter) x w) q) rep
 
-    pub iter-ignored : e ≡ Event.CloseIgnored → Rep l w M m f → Does l (deliver (Driver.Iter has val iter) e w) M m f Fault.CloseIgnored
+    pub iter-ignored : e ≡ Event.CloseIgnored → Rep l w M m f → Does l (deliver (Driver.Iter has val iter) e w) M m f (Err Fault.CloseIgnored)
     unfolding deliver
-    iter-ignored q rep = does l M m f (deliver (Driver.Iter has val iter) e w) w Fault.CloseIgnored (ap (λ x. deliver (Driver.Iter has val iter) x w) q) rep
+    iter-ignored q rep = does l M m f (deliver (Driver.Iter has val iter) e w) w (Err Fault.CloseIgnored) (ap (λ x. deliver (Driver.Iter has val iter) x w) q) rep
 
   -- ---- by the driver
 
   module _ (d : Driver) where
     -- a driver whose delivery is known
-    pub to-driver : (x : Driver) (a : Fault) → d ≡ x → Does l (deliver x e w) M m f a → Does l (deliver d e w) M m f a
+    pub to-driver : (x : Driver) (a : Result Unit Fault) → d ≡ x → Does l (deliver x e w) M m f a → Does l (deliver d e w) M m f a
     to-driver x a q did = subst (λ y. Does l (deliver y e w) M m f a) (sym q) did
 
-    pub to-host : (s : Stop) → d ≡ Driver.Host → s ≡ outcome_of e → Rep l (with_outcome (Outcome.Some s) w) M m f → Does l (deliver d e w) M m f Fault.None
+    pub to-host : (s : Stop) → d ≡ Driver.Host → s ≡ outcome_of e → Rep l (with_outcome (Some s) w) M m f → Does l (deliver d e w) M m f (Ok tt)
     unfolding deliver
     to-host s q r rep =
-        to-driver Driver.Host Fault.None q
-        (does l M m f (deliver Driver.Host e w) (with_outcome (Outcome.Some s) w) Fault.None (ap (λ x. record { world = with_outcome (Outcome.Some x) w; answer = Fault.None }) (sym r)) rep)
+        to-driver Driver.Host (Ok tt) q
+        (does l M m f (deliver Driver.Host e w) (with_outcome (Some s) w) (Ok tt) (ap (λ x. record { world = with_outcome (Some x) w; answer = Ok tt }) (sym r)) rep)
 
-    pub to-cleanup : d ≡ Driver.Finalize → Rep l (set_finalizing false w) M m f → Does l (deliver d e w) M m f Fault.None
+    pub to-cleanup : d ≡ Driver.Finalize → Rep l (set_finalizing false w) M m f → Does l (deliver d e w) M m f (Ok tt)
     unfolding deliver
-    to-cleanup q rep = to-driver Driver.Finalize Fault.None q (does l M m f (deliver Driver.Finalize e w) (set_finalizing false w) Fault.None refl rep)
+    to-cleanup q rep = to-driver Driver.Finalize (Ok tt) q (does l M m f (deliver Driver.Finalize e w) (set_finalizing false w) (Ok tt) refl rep)
 
 pub return-to : (l : Sizes) (M : Lent) (m : Machine) (f : Fuel) (w : World) (d x : Driver) (v : ℕ) → d ≡ x → Rep l (deliver_return x v w) M m f → Rep l (deliver_return d v w) M m f
 return-to l M m f w d x v q rep = subst (λ y. Rep l (deliver_return y v w) M m f) (sym q) rep

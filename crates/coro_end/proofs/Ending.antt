@@ -12,8 +12,7 @@ use Rattle.heap.specs.Word.{slot_of, tag_of}
 use Rattle.heap.specs.Table.{Slot, slot}
 use Rattle.heap.specs.Heap.{slots_of, coro_of, put_slot, SlotFits}
 use Rattle.heap.specs.declared.fault.Fault.{Fault}
-use Rattle.heap.specs.declared.heap.Coroutine as R
-use Rattle.heap.specs.declared.heap.Coroutine.TheVariants as RV
+use Rattle.std.specs.Prelude.{Result, Ok, Err}
 use Rattle.heap.specs.declared.object.CoroObj.{CoroObj}
 use Rattle.heap.specs.declared.object.CoroState.{CoroState}
 use Rattle.heap.specs.declared.object.Object.TheVariants as O
@@ -60,21 +59,21 @@ sound-rowed w snd =
 -- ---- one world that the words stand for
 
 module _ (l : Sizes) (M : Lent) (m : Machine) (f : Fuel) (v : ℕ) (w : World) (rep : Rep l w M m f) where
-  in-slots : (x : R.Coroutine) → x ≡ coro_of (slots_of m.count M.slots) v → x ≡ coro_of (to_slots w.slots) v
+  in-slots : (x : Result (ℕ × CoroObj) Fault) → x ≡ coro_of (slots_of m.count M.slots) v → x ≡ coro_of (to_slots w.slots) v
   in-slots x e = e ∙ ap (λ xs. coro_of xs v) (slots-are (to_slots w.slots) M.slots m.count rep.slots)
 
   -- no coroutine is found
-  pub none-ends : (s : CoroState) (result : ℕ) (g : Fault) → RV.Not g ≡ coro_of (slots_of m.count M.slots) v → Rep l (finish_coroutine v s result w) M m f
+  pub none-ends : (s : CoroState) (result : ℕ) (g : Fault) → Err g ≡ coro_of (slots_of m.count M.slots) v → Rep l (finish_coroutine v s result w) M m f
   none-ends s result g e =
-      let q = lacks w.slots v g (in-slots (RV.Not g) e) in
+      let q = lacks w.slots v g (in-slots (Err g) e) in
       subst (λ c. Rep l (change_as c v (in_state s) (ended result) w) M m f) (sym q.coro) rep
 
-  module _ (rowed : Rowed w.setup w.slots) (i : ℕ) (c : CoroObj) (found : RV.At i c ≡ coro_of (slots_of m.count M.slots) v) where
+  module _ (rowed : Rowed w.setup w.slots) (i : ℕ) (c : CoroObj) (found : Ok (i, c) ≡ coro_of (slots_of m.count M.slots) v) where
     abbrev u : Setup
     u = w.setup
 
     in-world : There w.slots v i c
-    in-world = there w.slots v i c (in-slots (RV.At i c) found)
+    in-world = there w.slots v i c (in-slots (Ok (i, c)) found)
 
     abbrev k : Core
     k = in-world.core

@@ -14,7 +14,7 @@ use Rattle.model.specs.Coro.{in_state, ended, finish_coroutine, fail_all, abort_
 use Rattle.model.specs.Fuel.{set_finalizing}
 use Rattle.model.specs.declared.machine.Active.{Active}
 use Rattle.model.specs.declared.machine.Fuel.{Fuel}
-use Rattle.model.specs.declared.machine.Outcome.{Outcome}
+use Rattle.std.specs.Prelude.{None}
 use Rattle.memory_tables.specs.Parts.{Chain}
 use Rattle.memory_world.specs.Memory.{Lent, Beside, Rep}
 use Rattle.memory_world.specs.Contract.{SomeWorld, Turns, if_rowed, only}
@@ -71,9 +71,9 @@ module _ (l : Sizes) (M : Lent) (m : Machine) (f : Fuel) (w : World) where
       let k = shorter w w.chain (omega arith) in
       omega arith
 
-  pub aborted : (t : Told) → t ≡ told Outcome.None → Rep l (set_finalizing false (fail_active w)) M m f → Rep l (abort_coros w) M (with_told t m) f
+  pub aborted : (t : Told) → t ≡ told None → Rep l (set_finalizing false (fail_active w)) M m f → Rep l (abort_coros w) M (with_told t m) f
   unfolding abort_coros
-  aborted t e rep = subst (λ (x : Told). Rep l (abort_coros w) M (with_told x m) f) (sym e) (turn-outcome l (set_finalizing false (fail_active w)) M m f rep Outcome.None)
+  aborted t e rep = subst (λ (x : Told). Rep l (abort_coros w) M (with_told x m) f) (sym e) (turn-outcome l (set_finalizing false (fail_active w)) M m f rep None)
 
 -- ---- the loop: those that are left fail in the present world as all do in that of the start
 

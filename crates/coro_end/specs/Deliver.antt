@@ -1,12 +1,11 @@
 -- coro.rs: deliver, deliver_return: what they ask of the words, and their parts.
-use Rattle.std.specs.Prelude.{◌≡◌, List, ℕ, ◌*◌, ◌≤◌, length}
+use Rattle.std.specs.Prelude.{◌≡◌, List, ℕ, ◌*◌, ◌≤◌, length, Some}
 use Rattle.heap.specs.Heap.{TableFits}
 use Rattle.model.specs.World.{World}
 use Rattle.model.specs.Frames.{put_reg}
 use Rattle.model.specs.Heap.{set_key, set_done}
 use Rattle.model.specs.Coro.{coro_send}
 use Rattle.model.specs.declared.machine.Driver.{Driver}
-use Rattle.model.specs.declared.machine.Outcome.{Outcome}
 use Rattle.model.specs.declared.machine.Stop.{Stop}
 use Rattle.memory_tables.specs.Does.{RegFits}
 use Rattle.memory_world.specs.Told.{told}
@@ -43,7 +42,7 @@ stopped s m =
       ready = m.ready;
       finalize = m.finalize;
       finalizing = m.finalizing;
-      outcome = told (Outcome.Some s);
+      outcome = told (Some s);
       used = m.used;
       seq = m.seq;
     }

@@ -10,7 +10,7 @@ use heap::value::Word;
 use machine_state::fuel::{FuelDid, set_finalizing};
 use memory_world::machine::{Machine, Sizes};
 use memory_world::outcome::told_outcome;
-use model::machine::{Fuel, Outcome};
+use model::machine::Fuel;
 
 // Every active coroutine fails, from the innermost on.
 pub(crate) fn fail_all(
@@ -58,7 +58,7 @@ pub fn abort_coros(
     let did = set_finalizing(failed, fuel, false);
     let f = did.fuel;
     let mut n = did.machine;
-    let none = told_outcome(Outcome::None);
+    let none = told_outcome(None);
     n.outcome = none;
     FuelDid {
         machine: n,

@@ -3,7 +3,6 @@ ghost use Rattle.std.specs.Prelude.{◌≡◌, ◌*◌, ◌≤◌, length};
 ghost use Rattle.heap.specs.Heap.{TableFits};
 ghost use Rattle.model.specs.Coro.{outcome_of, deliver, deliver_return};
 ghost use Rattle.model.specs.declared.machine.Driver.TheVariants.{Resume, Iter};
-ghost use Rattle.model.specs.declared.machine.Outcome.TheVariants.{Some};
 ghost use Rattle.machine_state.specs.Send.{SendFits};
 ghost use Rattle.memory_world.specs.Told.{told};
 ghost use Rattle.coro_end.specs.Deliver.{IterFits, DriverFits, iter_yielded, iter_returned, stopped};
@@ -13,19 +12,12 @@ ghost use Rattle.memory_world.specs.Contract.{Leaves, Met, any, every, only, wit
 use crate::iter::{set_done, set_key};
 use heap::fault::Fault;
 use heap::value::Word;
+use machine_state::called::Called;
 use machine_state::fuel::{FuelDid, set_finalizing};
 use machine_state::send::coro_send;
 use memory_world::machine::{Machine, Told};
 use model::coro::Event;
 use model::machine::{Driver, Fuel, Stop};
-
-// What a delivery leaves of the numbers and of the fuel, and answers.
-#[derive(Clone, Copy)]
-pub struct Delivered {
-    pub machine: Machine,
-    pub fuel: Fuel,
-    pub answer: Fault,
-}
 
 // What the host hears of an event.
 fn outcome_of(e: Event) -> Stop
@@ -68,20 +60,20 @@ pub(crate) fn deliver_resume(
     m: Machine,
     dst: u64,
     e: Event,
-) -> Fault
+) -> Result<(), Fault>
     requires { SendFits stack.old frames.old m.height m.depth dst }
     ensures { every (λ sizes. Met any sizes (deliver (Resume dst) e) (top (of_mut stack) (of_mut frames)) (only m) (only m) result) }
 {
     match e {
         Event::Yielded { payload, key: _ } => {
             coro_send(stack, frames, m, dst, payload);
-            Fault::None
+            Ok(())
         }
         Event::Awaiting(payload) => {
             coro_send(stack, frames, m, dst, payload);
-            Fault::None
+            Ok(())
         }
-        Event::CloseIgnored => Fault::CloseIgnored,
+        Event::CloseIgnored => Err(Fault::CloseIgnored),
     }
 }
 
@@ -131,17 +123,17 @@ pub(crate) fn deliver_iter(
     val: u64,
     iter: u64,
     e: Event,
-) -> Fault
+) -> Result<(), Fault>
     requires { IterFits stack.old frames.old slots.old m has val }
     ensures { every (λ sizes. Met any sizes (deliver (Iter has val iter) e) (top_table (of_mut stack) (of_mut frames) (of_mut slots)) (only m) (only m) result) }
 {
     match e {
         Event::Yielded { payload, key } => {
             iter_yielded(stack, frames, slots, m, has, val, iter, payload, key);
-            Fault::None
+            Ok(())
         }
-        Event::Awaiting(_) => Fault::TypeError,
-        Event::CloseIgnored => Fault::CloseIgnored,
+        Event::Awaiting(_) => Err(Fault::TypeError),
+        Event::CloseIgnored => Err(Fault::CloseIgnored),
     }
 }
 
@@ -154,14 +146,14 @@ pub fn deliver(
     fuel: Fuel,
     d: Driver,
     e: Event,
-) -> Delivered
+) -> Called<Result<(), Fault>>
     requires { DriverFits stack.old frames.old slots.old m d }
     ensures { every (λ sizes. Met any sizes (deliver d e) (top_table (of_mut stack) (of_mut frames) (of_mut slots)) (with m fuel) (with result.machine result.fuel) result.answer) }
 {
     match d {
         Driver::Resume(dst) => {
             let answer = deliver_resume(stack, frames, m, dst, e);
-            Delivered {
+            Called {
                 machine: m,
                 fuel,
                 answer,
@@ -169,7 +161,7 @@ pub fn deliver(
         }
         Driver::Iter { has, val, iter } => {
             let answer = deliver_iter(stack, frames, slots, m, has, val, iter, e);
-            Delivered {
+            Called {
                 machine: m,
                 fuel,
                 answer,
@@ -178,20 +170,20 @@ pub fn deliver(
         Driver::Host => {
             let s = outcome_of(e);
             let n = stopped(m, s);
-            Delivered {
+            Called {
                 machine: n,
                 fuel,
-                answer: Fault::None,
+                answer: Ok(()),
             }
         }
         Driver::Finalize => {
             let did = set_finalizing(m, fuel, false);
             let n = did.machine;
             let f = did.fuel;
-            Delivered {
+            Called {
                 machine: n,
                 fuel: f,
-                answer: Fault::None,
+                answer: Ok(()),
             }
         }
     }

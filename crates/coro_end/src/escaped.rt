@@ -10,20 +10,12 @@ ghost use Rattle.memory_world.specs.Contract.{Met, Reads, any, every, if_rowed, 
 use crate::deliver::stopped;
 use crate::last::end_last;
 use crate::returned::coro_returned;
-use heap::heap::Coroutine;
 use heap::object::CoroState;
 use heap::value::Word;
+use machine_state::called::Called;
 use machine_state::fuel::set_finalizing;
 use memory_world::machine::{Machine, Sizes};
 use model::machine::{Driver, Fuel, Stop};
-
-// What an escape leaves of the numbers and of the fuel, and whether the unwinding stops.
-#[derive(Clone, Copy)]
-pub struct Escaped {
-    pub machine: Machine,
-    pub fuel: Fuel,
-    pub answer: bool,
-}
 
 // Whether the coroutine that a word names is being closed by this signal.
 fn closed_by(slots: &[u64], m: Machine, v: Word, value: u64) -> bool
@@ -31,8 +23,8 @@ fn closed_by(slots: &[u64], m: Machine, v: Word, value: u64) -> bool
     ensures { every (λ sizes. Reads sizes (λ w. closed_by (coro w v.0) value) (table (of_ref slots)) (only m) result) }
 {
     match heap::heap::coro(slots, m.count, v) {
-        Coroutine::Not(_) => false,
-        Coroutine::At(_, c) => {
+        Err(_) => false,
+        Ok((_, c)) => {
             if c.closing {
                 return value == c.signal;
             }
@@ -42,11 +34,11 @@ fn closed_by(slots: &[u64], m: Machine, v: Word, value: u64) -> bool
 }
 
 // Whoever is no frame hears of it, and the unwinding stops there.
-fn fail_to(m: Machine, fuel: Fuel, d: Driver, s: Stop) -> Escaped
+fn fail_to(m: Machine, fuel: Fuel, d: Driver, s: Stop) -> Called<bool>
     ensures { every (λ sizes. Met any sizes (fail_to d s) none (with m fuel) (with result.machine result.fuel) result.answer) }
 {
     match d {
-        Driver::Resume(_) => Escaped {
+        Driver::Resume(_) => Called {
             machine: m,
             fuel,
             answer: false,
@@ -55,14 +47,14 @@ fn fail_to(m: Machine, fuel: Fuel, d: Driver, s: Stop) -> Escaped
             has: _,
             val: _,
             iter: _,
-        } => Escaped {
+        } => Called {
             machine: m,
             fuel,
             answer: false,
         },
         Driver::Host => {
             let n = stopped(m, s);
-            Escaped {
+            Called {
                 machine: n,
                 fuel,
                 answer: true,
@@ -72,7 +64,7 @@ fn fail_to(m: Machine, fuel: Fuel, d: Driver, s: Stop) -> Escaped
             let did = set_finalizing(m, fuel, false);
             let n = did.machine;
             let f = did.fuel;
-            Escaped {
+            Called {
                 machine: n,
                 fuel: f,
                 answer: true,
@@ -95,12 +87,12 @@ pub fn coro_escaped(
     value: u64,
     func: u64,
     pc: u64,
-) -> Escaped
+) -> Called<bool>
     requires { ReturnFits sizes (six stack.old frames.old chain.old slots.old saved_stack.old saved_frames.old plain) m }
     ensures { Met if_rowed sizes (coro_escaped value func pc) (six (of_mut stack) (of_mut frames) (of_mut chain) (of_mut slots) (of_mut saved_stack) (of_mut saved_frames)) (with m fuel) (with result.machine result.fuel) result.answer }
 {
     if m.active == 0 {
-        return Escaped {
+        return Called {
             machine: m,
             fuel,
             answer: false,
@@ -123,7 +115,7 @@ pub fn coro_escaped(
         );
         let n = did.machine;
         let f = did.fuel;
-        return Escaped {
+        return Called {
             machine: n,
             fuel: f,
             answer: true,

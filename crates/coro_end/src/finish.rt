@@ -9,7 +9,6 @@ ghost use Rattle.coro_end.specs.Finish.{FinishFits, ended_as, RowFits, Cleared, 
 ghost use Rattle.memory_world.specs.Lendings.{rows, plain};
 ghost use Rattle.memory_world.specs.Contract.{Leaves, if_rowed, only, of_mut};
 
-use heap::heap::Coroutine;
 use heap::object::{CoroObj, CoroState, Object};
 use heap::value::{Obj, Word};
 use memory_tables::frame::FRAME_WIDTH;
@@ -95,8 +94,8 @@ pub fn finish_coroutine(
     ensures { Leaves if_rowed sizes (finish_coroutine v.0 s res) (rows (of_mut slots) (of_mut saved_stack) (of_mut saved_frames)) (only m) (only m) }
 {
     match heap::heap::coro(slots, m.count, v) {
-        Coroutine::Not(_) => {}
-        Coroutine::At(i, c) => {
+        Err(_) => {}
+        Ok((i, c)) => {
             give_back_row(saved_stack, saved_frames, sizes, c);
             mark_ended(slots, i, v.0, c, s, res);
         }

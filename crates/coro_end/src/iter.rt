@@ -9,53 +9,49 @@ ghost use Rattle.coro_end.specs.Iter.{iter_of};
 ghost use Rattle.memory_world.specs.Lendings.{table};
 ghost use Rattle.memory_world.specs.Contract.{Leaves, any, every, only, of_mut};
 
-use heap::heap::Place;
 use heap::object::Object;
-use heap::value::{Obj, Opt, Word};
+use heap::value::{Obj, Word};
 use memory_world::machine::Machine;
 
 // The iterator that a word names: its slot, and what it holds.
 #[derive(Clone, Copy)]
-pub enum Iterator {
-    At {
-        slot: usize,
-        src: u64,
-        done: bool,
-        key: Opt,
-    },
-    Nothing,
+pub struct Iterator {
+    pub slot: usize,
+    pub src: u64,
+    pub done: bool,
+    pub key: Option<u64>,
 }
 
 // heap.rs: get, of an iterator.
-pub(crate) fn iter_at(slots: &[u64], count: usize, v: Word) -> Iterator
+pub(crate) fn iter_at(slots: &[u64], count: usize, v: Word) -> Option<Iterator>
     requires { TableFits slots.now count }
     ensures { result ≡ iter_of (slots_of count slots.now) v.0 }
 {
     match heap::heap::get(slots, count, v) {
-        Place::Nothing => Iterator::Nothing,
-        Place::At(i) => match heap::slot::object_at(slots, i) {
-            Object::Empty => Iterator::Nothing,
-            Object::Func(_) => Iterator::Nothing,
-            Object::Int(_) => Iterator::Nothing,
-            Object::Iter { src, done, key } => Iterator::At {
+        None => None,
+        Some(i) => match heap::slot::object_at(slots, i) {
+            Object::Empty => None,
+            Object::Func(_) => None,
+            Object::Int(_) => None,
+            Object::Iter { src, done, key } => Some(Iterator {
                 slot: i,
                 src,
                 done,
                 key,
-            },
+            }),
             Object::Error {
                 kind: _,
                 func: _,
                 pc: _,
                 payload: _,
-            } => Iterator::Nothing,
-            Object::Coro(_) => Iterator::Nothing,
+            } => None,
+            Object::Coro(_) => None,
         },
     }
 }
 
 // An iterator into the slot that its word names.
-pub(crate) fn put_iter(slots: &mut [u64], i: usize, v: u64, src: u64, done: bool, key: Opt)
+pub(crate) fn put_iter(slots: &mut [u64], i: usize, v: u64, src: u64, done: bool, key: Option<u64>)
     requires { SlotFits slots.old i }
     ensures { slots.new ≡ put_slot slots.old i (slot (tag_of v) (Iter src done key)) }
 {
@@ -69,13 +65,8 @@ pub fn set_key(slots: &mut [u64], m: Machine, v: Word, key: u64)
     ensures { every (λ sizes. Leaves any sizes (set_key v.0 key) (table (of_mut slots)) (only m) (only m)) }
 {
     match iter_at(slots, m.count, v) {
-        Iterator::At {
-            slot,
-            src,
-            done,
-            key: _,
-        } => put_iter(slots, slot, v.0, src, done, Opt::Some(key)),
-        Iterator::Nothing => {}
+        Some(x) => put_iter(slots, x.slot, v.0, x.src, x.done, Some(key)),
+        None => {}
     }
 }
 
@@ -85,12 +76,7 @@ pub fn set_done(slots: &mut [u64], m: Machine, v: Word)
     ensures { every (λ sizes. Leaves any sizes (set_done v.0) (table (of_mut slots)) (only m) (only m)) }
 {
     match iter_at(slots, m.count, v) {
-        Iterator::At {
-            slot,
-            src,
-            done: _,
-            key,
-        } => put_iter(slots, slot, v.0, src, true, key),
-        Iterator::Nothing => {}
+        Some(x) => put_iter(slots, x.slot, v.0, x.src, true, x.key),
+        None => {}
     }
 }

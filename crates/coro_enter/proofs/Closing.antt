@@ -7,7 +7,7 @@ use Rattle.heap.specs.Object.{as_closing}
 use Rattle.heap.specs.Word.{tag_of}
 use Rattle.heap.specs.Slot.{width, closing_words}
 use Rattle.heap.specs.Heap.{coro_in, slots_of, place_of, coro_of}
-use Rattle.heap.specs.declared.heap.CoroPlace.TheVariants as L
+use Rattle.std.specs.Prelude.{Ok}
 use Rattle.heap.proofs.Fields.{closes}
 use Rattle.model.specs.World.{World}
 use Rattle.model.specs.Heap.{change_coro}
@@ -18,7 +18,7 @@ use Rattle.memory_world.specs.declared.machine.Machine.{Machine}
 use Rattle.memory_world.specs.declared.machine.Sizes.{Sizes}
 use Rattle.memory_world.proofs.Slotted.{placed-words, marks-changed}
 
-pub closing-rep : (l : Sizes) (M : Lent) (m : Machine) (f : Fuel) (v : ℕ) (w : World) → Rep l w M m f → (i : ℕ) → L.At i ≡ place_of (coro_of (slots_of m.count M.slots) v)
+pub closing-rep : (l : Sizes) (M : Lent) (m : Machine) (f : Fuel) (v : ℕ) (w : World) → Rep l w M m f → (i : ℕ) → Ok i ≡ place_of (coro_of (slots_of m.count M.slots) v)
     → (signal : ℕ) (slots' : List ℕ) → slots' ≡ put_chunk width M.slots i (closing_words signal (chunk_at width M.slots i))
     → Rep l (change_coro v (λ k. k) (close signal) w) (on_slots slots' M) m f
 closing-rep l M m f v w rep i at signal slots' e =

@@ -3,10 +3,11 @@ use mathlib.Core.Path.{◌≡◌, ap, ◌∙◌, subst, sym}
 use mathlib.Core.Bool.{true}
 use Prim.Native.Nat.{ℕ}
 use Rattle.heap.specs.declared.fault.Fault.{Fault}
-use Rattle.model.specs.World.{World, After, after, and_then}
+use Rattle.model.specs.World.{World, After, and_then}
 use Rattle.model.specs.Coro.{coro_send, coro_enter}
 use Rattle.model.specs.Exec.{arrive}
 use Rattle.model.specs.Sound.{sound}
+use Rattle.std.specs.Prelude.{Result, Ok, Err}
 use Rattle.model.specs.declared.coro.Entered.{Entered}
 use Rattle.model.specs.declared.exec.Step.{Step}
 use Rattle.model.specs.declared.machine.Driver.{Driver}
@@ -26,18 +27,18 @@ then-does l M m f o g a b e d = subst (λ z. Does l (g o.world z) M m f b) e d
 
 -- ---- a word arrives, or does not
 
-module _ (l : Sizes) (M : Lent) (m : Machine) (f : Fuel) (w : World) (a : Entered) (sent : ℕ) where
-  pub arrive-fresh : a ≡ Entered.Fresh → Rep l w M m f → Does l (arrive sent w a) M m f Step.Frame
+module _ (l : Sizes) (M : Lent) (m : Machine) (f : Fuel) (w : World) (a : Result Entered Fault) (sent : ℕ) where
+  pub arrive-fresh : a ≡ (Ok Entered.Fresh) → Rep l w M m f → Does l (arrive sent w a) M m f Step.Frame
   arrive-fresh e rep = does l M m f (arrive sent w a) w Step.Frame (ap (arrive sent w) e) rep
 
-  pub arrive-sent : (x : ℕ) → a ≡ Entered.Suspended x → Rep l (coro_send x sent w) M m f → Does l (arrive sent w a) M m f Step.Frame
+  pub arrive-sent : (x : ℕ) → a ≡ Ok (Entered.Suspended x) → Rep l (coro_send x sent w) M m f → Does l (arrive sent w a) M m f Step.Frame
   arrive-sent x e rep = does l M m f (arrive sent w a) (coro_send x sent w) Step.Frame (ap (arrive sent w) e) rep
 
-  pub arrive-refused : (g : Fault) → a ≡ Entered.Refused g → Rep l w M m f → Does l (arrive sent w a) M m f (Step.Fault g)
+  pub arrive-refused : (g : Fault) → a ≡ Err g → Rep l w M m f → Does l (arrive sent w a) M m f (Step.Fault g)
   arrive-refused g e rep = does l M m f (arrive sent w a) w (Step.Fault g) (ap (arrive sent w) e) rep
 
 -- the register that waits lies in the top frame of what was entered
-pub arrive-fits : (l : Sizes) (M : Lent) (m : Machine) (fuel : Fuel) (v : ℕ) (d : Driver) (w : World) (a : Entered) → sound w ≡ true → Does l (coro_enter v d w) M m fuel a
+pub arrive-fits : (l : Sizes) (M : Lent) (m : Machine) (fuel : Fuel) (v : ℕ) (d : Driver) (w : World) (a : Result Entered Fault) → sound w ≡ true → Does l (coro_enter v d w) M m fuel a
     → ArriveFits M.stack M.frames m.height m.depth a
 arrive-fits l M m fuel v d w a snd did =
     record { waits = λ x e. lands-fits l M m fuel (coro_enter v d w).world x did.world (enter-lands v d w snd x (sym did.answer ∙ e)) }

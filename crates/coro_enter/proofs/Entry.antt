@@ -2,22 +2,22 @@
 use mathlib.Core.Path.{◌≡◌, refl, sym, ap, ap₂, ◌∙◌, subst}
 use mathlib.Core.Bool.{Bool, true, false, not, ◌&&◌, ◌||◌}
 use mathlib.Core.List.{List, [], ◌∷◌, ◌++◌, map}
-use Prim.Native.Nat.{ℕ, zero, suc, ◌+◌, ◌-◌, ◌*◌, ◌^◌, ◌≤◌, ◌<◌}
+use Prim.Native.Nat.{ℕ, suc, ◌+◌, ◌*◌, ◌^◌, ◌≤◌, ◌<◌}
 use native.Mathlib.Omega.{arith}
-use native.Mathlib.Nat.{not-suc-le-zero, le_of_suc-le-suc}
 use lib.ListN.{length, get_or, set, length-map}
 use lib.Dec.{eqb, ltb, leb}
 use borrow.Author.Tests.{leb-true, ltb-false, not-false, ne_eqb}
+use Rattle.lists.proofs.Tests.{never}
 use Rattle.lists.specs.Pick.{pick, pick_true}
 use Rattle.lists.specs.Chunks.{chunk_at, put_chunk}
-use Rattle.heap.specs.Fault.{number_of}
 use Rattle.heap.specs.Object.{as_entered}
 use Rattle.heap.specs.Slot.{entered_words, width}
 use Rattle.heap.specs.Word.{slot_of, tag_of}
 use Rattle.heap.specs.Table.{Slot, slot, put_object}
 use Rattle.heap.specs.Heap.{slots_of, coro_of, put_slot, SlotFits}
 use Rattle.heap.specs.declared.fault.Fault.{Fault}
-use Rattle.heap.specs.declared.heap.Coroutine.TheVariants as RV
+use Rattle.std.specs.Prelude.{Result, Err}
+use Rattle.model.specs.declared.coro.Entered.{Entered}
 use Rattle.heap.specs.declared.object.CoroObj.{CoroObj}
 use Rattle.heap.specs.declared.object.CoroState.{CoroState}
 use Rattle.heap.specs.declared.object.Object as H
@@ -31,7 +31,6 @@ use Rattle.model.specs.Rows.{held_rows}
 use Rattle.model.specs.Coro.{active, in_state, sized, entered, overflows, enter_as, coro_enter}
 use Rattle.model.specs.Sound.{row_words, sound, bases_ok, frame_names, conts_lie, catches_lie, frames_over, body_last, waits, saved_in, saved_sizes}
 use Rattle.model.specs.Program.{Setup}
-use Rattle.model.specs.declared.coro.Entered.{Entered}
 use Rattle.model.specs.declared.machine.Cont.{Cont}
 use Rattle.model.specs.declared.machine.Driver.{Driver}
 use Rattle.model.specs.declared.machine.Frame.{Frame}
@@ -75,24 +74,24 @@ some-frame (f ∷ fs) e = omega arith
 
 -- ---- the verdict
 
-abbrev pub verdict : Bool → Bool → Fault
-verdict a b = pick a Fault.InvalidCoroState (pick b Fault.StackOverflow Fault.None)
+abbrev pub verdict : Bool → Bool → Result Unit Fault
+verdict a b = pick a (Err Fault.InvalidCoroState) (pick b (Err Fault.StackOverflow) (Result.Ok tt))
 
-refuses : (a b : Bool) (f : Fault) (w : World) (o : After Entered) → f ≡ verdict a b → (number_of f ≡ 0 → ⊥)
-    → pick a (after w (Entered.Refused Fault.InvalidCoroState)) (pick b (after w (Entered.Refused Fault.StackOverflow)) o) ≡ after w (Entered.Refused f)
+refuses : (a b : Bool) (f : Fault) (w : World) (o : After (Result Entered Fault)) → Err f ≡ verdict a b
+    → pick a (after w (Err Fault.InvalidCoroState)) (pick b (after w (Err Fault.StackOverflow)) o) ≡ after w (Err f)
 unfolding pick
-refuses true b f w o e n = ap (λ g. after w (Entered.Refused g)) (sym e)
-refuses false true f w o e n = ap (λ g. after w (Entered.Refused g)) (sym e)
-refuses false false f w o e n = absurd (n (ap number_of e))
+refuses true b f w o e = let z : Fault.InvalidCoroState ≡ f = cc in ap (λ g. after w (Err g)) z
+refuses false true f w o e = let z : Fault.StackOverflow ≡ f = cc in ap (λ g. after w (Err g)) z
+refuses false false f w o e = never cc
 
-passes : (a b : Bool) (f : Fault) → f ≡ verdict a b → number_of f ≡ 0 → (a ≡ false) × (b ≡ false)
+passes : (a b : Bool) (u : Unit) → Result.Ok u ≡ verdict a b → (a ≡ false) × (b ≡ false)
 unfolding pick
-passes true b f e n = absurd (let z : number_of f ≡ 3 = ap number_of e in omega arith)
-passes false true f e n = absurd (let z : number_of f ≡ 4 = ap number_of e in omega arith)
-passes false false f e n = (refl, refl)
+passes true b u e = never cc
+passes false true u e = never cc
+passes false false u e = (refl, refl)
 
-accepts : (a b : Bool) (w : World) (o : After Entered) → a ≡ false → b ≡ false
-    → pick a (after w (Entered.Refused Fault.InvalidCoroState)) (pick b (after w (Entered.Refused Fault.StackOverflow)) o) ≡ o
+accepts : (a b : Bool) (w : World) (o : After (Result Entered Fault)) → a ≡ false → b ≡ false
+    → pick a (after w (Err Fault.InvalidCoroState)) (pick b (after w (Err Fault.StackOverflow)) o) ≡ o
 unfolding pick
 accepts false false w o p q = refl
 accepts false true w o p q = no_true q
@@ -110,13 +109,13 @@ pub record Grows (l : Sizes) (M : Lent) (m : Machine) (i : ℕ) (c : CoroObj) : 
 
 module _ (l : Sizes) (M : Lent) (m : Machine) (f : Fuel) (v : ℕ) (w : World) (rep : Rep l w M m f) where
   -- no coroutine is found
-  pub not_found : (d : Driver) (g : Fault) → RV.Not g ≡ coro_of (slots_of m.count M.slots) v → Does l (coro_enter v d w) M m f (Entered.Refused g)
+  pub not_found : (d : Driver) (g : Fault) → Err g ≡ coro_of (slots_of m.count M.slots) v → Does l (coro_enter v d w) M m f (Err g)
   unfolding coro_enter
   not_found d g e =
       let q = lacks w.slots v g (e ∙ ap (λ xs. coro_of xs v) (slots-are (to_slots w.slots) M.slots m.count rep.slots)) in
-      does l M m f (coro_enter v d w) w (Entered.Refused g) (ap (λ k. enter_as k v d w) q.coro ∙ ap (λ x. after w (Entered.Refused x)) (sym q.fault)) rep
+      does l M m f (coro_enter v d w) w (Err g) (ap (λ k. enter_as k v d w) q.coro ∙ ap (λ x. after w (Err x)) (sym q.fault)) rep
 
-  module _ (i : ℕ) (c : CoroObj) (found : RV.At i c ≡ coro_of (slots_of m.count M.slots) v) where
+  module _ (i : ℕ) (c : CoroObj) (found : Result.Ok (i, c) ≡ coro_of (slots_of m.count M.slots) v) where
     pub in-world : There w.slots v i c
     in-world = there w.slots v i c (found ∙ ap (λ xs. coro_of xs v) (slots-are (to_slots w.slots) M.slots m.count rep.slots))
 
@@ -140,10 +139,10 @@ module _ (l : Sizes) (M : Lent) (m : Machine) (f : Fuel) (v : ℕ) (w : World) (
     unfolding coro_enter
     model-enter d = ap (λ x. enter_as x v d w) in-world.coro
 
-    pub refused : (d : Driver) (g : Fault) → g ≡ refusal_of m.height m.depth l c → (number_of g ≡ 0 → ⊥) → Does l (coro_enter v d w) M m f (Entered.Refused g)
-    refused d g e n =
-        does l M m f (coro_enter v d w) w (Entered.Refused g)
-        (model-enter d ∙ refuses unfit (overflows k w) g w (after (entered v d k r w) (pick (is_created k.state) Entered.Fresh (Entered.Suspended k.waiting))) (e ∙ same-verdict) n) rep
+    pub refused : (d : Driver) (g : Fault) → Err g ≡ refusal_of m.height m.depth l c → Does l (coro_enter v d w) M m f (Err g)
+    refused d g e =
+        does l M m f (coro_enter v d w) w (Err g)
+        (model-enter d ∙ refuses unfit (overflows k w) g w (after (entered v d k r w) (pick (is_created k.state) (Result.Ok Entered.Fresh) (Result.Ok (Entered.Suspended k.waiting)))) (e ∙ same-verdict)) rep
 
     module _ (snd : sound w ≡ true) where
       abbrev s : Setup
@@ -179,9 +178,9 @@ module _ (l : Sizes) (M : Lent) (m : Machine) (f : Fuel) (v : ℕ) (w : World) (
           record { depth = omega arith; height = omega arith; below = omega arith; active = omega arith }
 
       -- what is known when nothing is refused
-      module _ (g : Fault) (told : g ≡ refusal_of m.height m.depth l c) (none : number_of g ≡ 0) where
+      module _ (u : Unit) (told : Result.Ok u ≡ refusal_of m.height m.depth l c) where
         clear : (unfit ≡ false) × (overflows k w ≡ false)
-        clear = passes unfit (overflows k w) g (told ∙ same-verdict) none
+        clear = passes unfit (overflows k w) u (told ∙ same-verdict)
 
         may : is_resumable k.state ≡ true
         may = not-false (is_resumable k.state) (or-first (not (is_resumable k.state)) (is_nil k.frames) clear.0)
@@ -316,7 +315,7 @@ module _ (l : Sizes) (M : Lent) (m : Machine) (f : Fuel) (v : ℕ) (w : World) (
           abbrev M' : Lent
           M' = record { stack = stack'; frames = frames'; chain = chain'; slots = slots'; saved_stack = saved_stack'; saved_frames = saved_frames'; ready = M.ready; finalize = M.finalize; setup = M.setup }
 
-          done : (a : Entered)
+          done : (a : Result Entered Fault)
               → Moves M.stack M.frames M.saved_stack M.saved_frames stack' frames' saved_stack' saved_frames' m.height m.depth l c
               → ChainDo (λ cs. active v m.depth d ∷ cs) M.chain chain' m.active (m.active + 1)
               → slots' ≡ put_slot M.slots i (slot (tag_of v) (O.Coro (as_entered c)))
@@ -324,7 +323,7 @@ module _ (l : Sizes) (M : Lent) (m : Machine) (f : Fuel) (v : ℕ) (w : World) (
               → Does l (coro_enter v d w) M' (grown m c) f a
           done a moves push mark ea =
               let k' : Core = in_state CoroState.Running k in
-              let answer : a ≡ pick (is_created k.state) Entered.Fresh (Entered.Suspended k.waiting) = ea ∙ ap entered_as in-world.is in
+              let answer : a ≡ pick (is_created k.state) (Result.Ok Entered.Fresh) (Result.Ok (Entered.Suspended k.waiting)) = ea ∙ ap entered_as in-world.is in
               let rs = regs_rows s.limits.rows w.slots in
               let gs = frames_rows s.limits.rows w.slots in
               let on : StackEntered (row_words s) w.stack k.regs rs r.row stack' saved_stack' (m.height + c.regs) =
@@ -333,7 +332,7 @@ module _ (l : Sizes) (M : Lent) (m : Machine) (f : Fuel) (v : ℕ) (w : World) (
               moves.on-frames (frames_size s) w.frames k.frames gs r.row rep.frames rep.saved_frames frames-is frames-count in
               does l M' (grown m c) f (coro_enter v d w) (entered v d k r w) a
               (model-enter d
-              ∙ accepts unfit (overflows k w) w (after (entered v d k r w) (pick (is_created k.state) Entered.Fresh (Entered.Suspended k.waiting))) clear.0 clear.1
+              ∙ accepts unfit (overflows k w) w (after (entered v d k r w) (pick (is_created k.state) (Result.Ok Entered.Fresh) (Result.Ok (Entered.Suspended k.waiting)))) clear.0 clear.1
               ∙ ap (after (entered v d k r w)) (sym answer))
               (turn-slots l _ _ _ f
               (turn-chain l _ _ _ f
@@ -345,7 +344,7 @@ module _ (l : Sizes) (M : Lent) (m : Machine) (f : Fuel) (v : ℕ) (w : World) (
               (subst (λ z. SavedStack (row_words s) z saved_stack') (regs-set w.slots v k r points own live k' (sized k r) refl refl s.limits.rows) on.saved)
               (subst (λ z. SavedFrames (frames_size s) z saved_frames') (frames-set w.slots v k r points own live k' (sized k r) refl refl s.limits.rows) up.saved))
 
-          pub accepted : (n : Machine) (a : Entered)
+          pub accepted : (n : Machine) (a : Result Entered Fault)
               → Moves M.stack M.frames M.saved_stack M.saved_frames stack' frames' saved_stack' saved_frames' m.height m.depth l c
               → ChainDo (λ cs. active v m.depth d ∷ cs) M.chain chain' m.active (m.active + 1)
               → slots' ≡ put_chunk width M.slots i (entered_words (chunk_at width M.slots i))
@@ -359,14 +358,14 @@ module _ (l : Sizes) (M : Lent) (m : Machine) (f : Fuel) (v : ℕ) (w : World) (
 
 -- ---- the same, of what the contract asks
 
-module _ {l : Sizes} {M : Beside → Lent} {m : Machine} {i : ℕ} {c : CoroObj} (o : Ok l M (only m)) (v : ℕ) (found : RV.At i c ≡ coro_of (slots_of m.count (M o.beside).slots) v) where
+module _ {l : Sizes} {M : Beside → Lent} {m : Machine} {i : ℕ} {c : CoroObj} (o : Ok l M (only m)) (v : ℕ) (found : Result.Ok (i, c) ≡ coro_of (slots_of m.count (M o.beside).slots) v) where
   pub ok-before : (m.depth ≤ l.depth) × (m.height ≤ l.stack)
   ok-before = let b = before l (M o.beside) m o.beside.fuel v o.world o.rep i c found o.sound in (b.depth, b.height)
 
-  module _ {g : Fault} (told : g ≡ refusal_of m.height m.depth l c) (none : number_of g ≡ 0) where
+  module _ {u : Unit} (told : Result.Ok u ≡ refusal_of m.height m.depth l c) where
     pub ok-moves : length (M o.beside).stack < 2 ^ 64
         → MoveFits (M o.beside).stack (M o.beside).frames (M o.beside).saved_stack (M o.beside).saved_frames m.height m.depth l c
-    ok-moves = move-fits l (M o.beside) m o.beside.fuel v o.world o.rep i c found o.sound g told none o.room
+    ok-moves = move-fits l (M o.beside) m o.beside.fuel v o.world o.rep i c found o.sound u told o.room
 
     pub ok-sums : Grows l (M o.beside) m i c
-    ok-sums = sums l (M o.beside) m o.beside.fuel v o.world o.rep i c found o.sound g told none o.room
+    ok-sums = sums l (M o.beside) m o.beside.fuel v o.world o.rep i c found o.sound u told o.room

@@ -2,11 +2,11 @@
 use mathlib.Core.Path.{◌≡◌, refl, sym, ap, ◌∙◌, subst}
 use mathlib.Core.Bool.{Bool, true, false, not, ◌&&◌, ◌||◌}
 use mathlib.Core.List.{List, [], ◌∷◌, ◌++◌, map}
-use Prim.Native.Nat.{ℕ, ◌+◌, ◌-◌, ◌^◌, ◌<◌}
+use Prim.Native.Nat.{ℕ, ◌+◌, ◌^◌, ◌<◌}
 use native.Mathlib.Omega.{arith}
 use lib.ListN.{length, length-append}
 use lib.Dec.{ltb}
-use borrow.Author.Tests.{ltb-true, lt-ltb, not-false}
+use borrow.Author.Tests.{ltb-true, not-false}
 use Rattle.lists.specs.Pick.{pick, pick_true}
 use Rattle.lists.proofs.Tests.{never}
 use Rattle.heap.specs.declared.object.CoroState.{CoroState}
@@ -15,18 +15,19 @@ use Rattle.model.specs.State.{is_created, is_resumable, is_suspended}
 use Rattle.model.specs.Program.{Setup, is_function}
 use Rattle.model.specs.Object.{Coroutine, Absent, Is}
 use Rattle.model.specs.World.{World, After}
-use Rattle.model.specs.Frames.{raise, top_base, store_pc}
+use Rattle.model.specs.Frames.{raise, top_base}
 use Rattle.model.specs.Heap.{coro}
 use Rattle.model.specs.Coro.{overflows, enter_as, coro_enter}
 use Rattle.model.specs.Sound.{sound, bases_ok, frame_names, conts_lie, catches_lie, frames_over, body_last, waits, saved_in}
+use Rattle.std.specs.Prelude.{Result, Ok}
 use Rattle.model.specs.declared.coro.Entered.{Entered}
+use Rattle.heap.specs.declared.fault.Fault.{Fault}
 use Rattle.model.specs.declared.machine.Driver.{Driver}
 use Rattle.model.specs.declared.machine.Frame.{Frame}
 use Rattle.claims_sound.proofs.Tests.{no_false, no_true, and_left, and_right, or-first, or-second, picked}
 use Rattle.claims_sound.proofs.Point.{finds}
-use Rattle.claims_sound.proofs.Sound.{Sound, sound→, →sound}
+use Rattle.claims_sound.proofs.Sound.{Sound, sound→}
 use Rattle.claims_sound.proofs.Coros.{object-ok}
-use Rattle.claims_sound.proofs.Tower.{store-sound}
 use Rattle.machine_state.proofs.Lands.{Lands}
 
 suspended-of : (s : CoroState) → is_resumable s ≡ true → is_created s ≡ false → is_suspended s ≡ true
@@ -37,7 +38,7 @@ suspended-of CoroState.Awaiting p q = refl
 suspended-of CoroState.Returned p q = no_false p
 suspended-of CoroState.Failed p q = no_false p
 
-answer-of : (t : Bool) (n x : ℕ) → pick t Entered.Fresh (Entered.Suspended n) ≡ Entered.Suspended x → (t ≡ false) × (n ≡ x)
+answer-of : (t : Bool) (n x : ℕ) → pick {A = Result Entered Fault} t (Ok Entered.Fresh) (Ok (Entered.Suspended n)) ≡ Ok (Entered.Suspended x) → (t ≡ false) × (n ≡ x)
 unfolding pick
 answer-of true n x e = never cc
 answer-of false n x e = (refl, cc)
@@ -56,17 +57,17 @@ frames-land s (f ∷ fs) gs stack regs u x e n h p q =
       pc = ltb-true f.pc (2 ^ 32) (and_right (is_function s f.func) (ltb f.pc (2 ^ 32)) a);
     }
 
-pub enter-lands : (v : ℕ) (d : Driver) (w : World) → sound w ≡ true → (x : ℕ) → (coro_enter v d w).answer ≡ Entered.Suspended x → Lands (coro_enter v d w).world x
+pub enter-lands : (v : ℕ) (d : Driver) (w : World) → sound w ≡ true → (x : ℕ) → (coro_enter v d w).answer ≡ Ok (Entered.Suspended x) → Lands (coro_enter v d w).world x
 unfolding coro_enter
 enter-lands v d w snd x q = go (coro w v) refl q
   where
     known : Sound false w
     known = sound→ w snd (λ z. no_false z)
 
-    go : (c : Coroutine) → coro w v ≡ c → (enter_as c v d w).answer ≡ Entered.Suspended x → Lands (enter_as c v d w).world x
+    go : (c : Coroutine) → coro w v ≡ c → (enter_as c v d w).answer ≡ Ok (Entered.Suspended x) → Lands (enter_as c v d w).world x
     go Absent e q = never cc
     go (Is k r) e q =
-        let P : After Entered → Type 0 = λ o. o.answer ≡ Entered.Suspended x → Lands o.world x in
+        let P : After (Result Entered Fault) → Type 0 = λ o. o.answer ≡ Ok (Entered.Suspended x) → Lands o.world x in
         picked P (not (is_resumable k.state) || is_nil k.frames) (λ _ z. never cc)
         (λ fit.
         let may : is_resumable k.state ≡ true = not-false (is_resumable k.state) (or-first (not (is_resumable k.state)) (is_nil k.frames) fit) in

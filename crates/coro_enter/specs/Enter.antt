@@ -1,5 +1,5 @@
 -- coro.rs: the parts of coro_enter, by the coroutine's record.
-use Rattle.std.specs.Prelude.{not, ◌||◌, List, ℕ, ◌+◌, ◌*◌, ◌≤◌, length, eqb, ltb}
+use Rattle.std.specs.Prelude.{not, ◌||◌, List, ℕ, ◌+◌, ◌*◌, ◌≤◌, length, eqb, ltb, Result, Ok, Err}
 use Rattle.lists.specs.Pick.{pick}
 use Rattle.heap.specs.declared.fault.Fault.{Fault}
 use Rattle.heap.specs.declared.object.CoroObj.{CoroObj}
@@ -9,15 +9,15 @@ use Rattle.memory_tables.specs.Does.{EntersStack, EntersFrames, EnterFits}
 use Rattle.memory_world.specs.declared.machine.Machine.{Machine}
 use Rattle.memory_world.specs.declared.machine.Sizes.{Sizes}
 
--- why it is not entered, or None
-abbrev pub refusal_of : ℕ → ℕ → Sizes → CoroObj → Fault
+-- whether it may be entered, or why not
+abbrev pub refusal_of : ℕ → ℕ → Sizes → CoroObj → Result Unit Fault
 refusal_of height depth sizes c =
-    pick (not (is_resumable c.state) || eqb c.frames 0) Fault.InvalidCoroState
-    (pick (ltb sizes.depth (depth + c.frames) || ltb sizes.stack (height + c.regs)) Fault.StackOverflow
-    Fault.None)
+    pick (not (is_resumable c.state) || eqb c.frames 0) (Err Fault.InvalidCoroState)
+    (pick (ltb sizes.depth (depth + c.frames) || ltb sizes.stack (height + c.regs)) (Err Fault.StackOverflow)
+    (Ok tt))
 
-abbrev pub entered_as : CoroObj → Entered
-entered_as c = pick (is_created c.state) Entered.Fresh (Entered.Suspended c.waiting)
+abbrev pub entered_as : CoroObj → Result Entered Fault
+entered_as c = pick (is_created c.state) (Ok Entered.Fresh) (Ok (Entered.Suspended c.waiting))
 
 abbrev pub grown : Machine → CoroObj → Machine
 grown m c =

@@ -1,6 +1,7 @@
 -- coro.rs: exec, a pc stored, an entry, and the word that is sent, on the lent words.
-use Rattle.std.specs.Prelude.{◌≡◌, List, ℕ, ◌^◌, ◌≤◌, ◌<◌}
+use Rattle.std.specs.Prelude.{◌≡◌, List, ℕ, ◌^◌, ◌≤◌, ◌<◌, Result}
 use Rattle.model.specs.declared.coro.Entered.{Entered}
+use Rattle.heap.specs.declared.fault.Fault.{Fault}
 use Rattle.memory_tables.specs.Does.{RegFits}
 use Rattle.memory_world.specs.Lendings.{lent}
 use Rattle.memory_world.specs.Contract.{Ok, only}
@@ -20,5 +21,5 @@ pub record AnswerFits (sizes : Sizes) (stack frames chain slots saved_stack save
   pub result : RegFits stack frames m.height m.depth r
 
 -- the register of a coroutine that waits for a word
-pub record ArriveFits (stack frames : List ℕ) (height depth : ℕ) (a : Entered) : Type 0 where
-  pub waits : (x : ℕ) → a ≡ Entered.Suspended x → SendFits stack frames height depth x
+pub record ArriveFits (stack frames : List ℕ) (height depth : ℕ) (a : Result Entered Fault) : Type 0 where
+  pub waits : (x : ℕ) → a ≡ Result.Ok (Entered.Suspended x) → SendFits stack frames height depth x

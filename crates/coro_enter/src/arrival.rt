@@ -7,10 +7,11 @@ ghost use Rattle.coro_enter.specs.Entry.{EntryFits, ArriveFits};
 ghost use Rattle.memory_world.specs.Lendings.{six, top};
 ghost use Rattle.memory_world.specs.Contract.{Met, any, every, if_sound, only, of_mut};
 
-use crate::enter::{EnterDid, coro_enter};
+use crate::enter::coro_enter;
+use heap::fault::Fault;
 use heap::value::Word;
+use machine_state::called::Did;
 use machine_state::send::coro_send;
-use machine_state::step::StepDid;
 use memory_world::machine::{Machine, Sizes};
 use model::coro::Entered;
 use model::exec::Step;
@@ -29,7 +30,7 @@ pub fn store_enter(
     pc: u64,
     v: u64,
     d: Driver,
-) -> EnterDid
+) -> Did<Result<Entered, Fault>>
     requires { EntryFits sizes stack.old frames.old chain.old slots.old saved_stack.old saved_frames.old m pc }
     ensures { Met if_sound sizes (λ w. coro_enter v d (store_pc pc w)) (six (of_mut stack) (of_mut frames) (of_mut chain) (of_mut slots) (of_mut saved_stack) (of_mut saved_frames)) (only m) (only result.machine) result.answer }
 {
@@ -49,17 +50,25 @@ pub fn store_enter(
 }
 
 // The sent word goes to a coroutine that waits for it.
-pub fn arrive(stack: &mut [u64], frames: &mut [u64], m: Machine, a: Entered, sent: u64) -> Step
+pub fn arrive(
+    stack: &mut [u64],
+    frames: &mut [u64],
+    m: Machine,
+    a: Result<Entered, Fault>,
+    sent: u64,
+) -> Step
     requires { ArriveFits stack.old frames.old m.height m.depth a }
     ensures { every (λ sizes. Met any sizes (λ w. arrive sent w a) (top (of_mut stack) (of_mut frames)) (only m) (only m) result) }
 {
     match a {
-        Entered::Fresh => Step::Frame,
-        Entered::Suspended(d) => {
-            coro_send(stack, frames, m, d, sent);
-            Step::Frame
-        }
-        Entered::Refused(f) => Step::Fault(f),
+        Ok(entered) => match entered {
+            Entered::Fresh => Step::Frame,
+            Entered::Suspended(d) => {
+                coro_send(stack, frames, m, d, sent);
+                Step::Frame
+            }
+        },
+        Err(f) => Step::Fault(f),
     }
 }
 
@@ -77,9 +86,9 @@ pub fn enter_send(
     v: u64,
     d: Driver,
     sent: u64,
-) -> StepDid
+) -> Did<Step>
     requires { EntryFits sizes stack.old frames.old chain.old slots.old saved_stack.old saved_frames.old m pc }
-    ensures { Met if_sound sizes (λ w. and_then (coro_enter v d (store_pc pc w)) (arrive sent)) (six (of_mut stack) (of_mut frames) (of_mut chain) (of_mut slots) (of_mut saved_stack) (of_mut saved_frames)) (only m) (only result.machine) result.step }
+    ensures { Met if_sound sizes (λ w. and_then (coro_enter v d (store_pc pc w)) (arrive sent)) (six (of_mut stack) (of_mut frames) (of_mut chain) (of_mut slots) (of_mut saved_stack) (of_mut saved_frames)) (only m) (only result.machine) result.answer }
 {
     let did = store_enter(
         stack,
@@ -97,5 +106,8 @@ pub fn enter_send(
     let n = did.machine;
     let a = did.answer;
     let step = arrive(stack, frames, n, a, sent);
-    StepDid { machine: n, step }
+    Did {
+        machine: n,
+        answer: step,
+    }
 }

@@ -5,7 +5,6 @@ ghost use Rattle.model.specs.Cleanup.{close};
 ghost use Rattle.memory_world.specs.Lendings.{table};
 ghost use Rattle.memory_world.specs.Contract.{Leaves, any, every, only, of_mut};
 
-use heap::heap::CoroPlace;
 use heap::value::Word;
 use memory_world::machine::Machine;
 
@@ -15,7 +14,7 @@ pub fn set_closing(slots: &mut [u64], m: Machine, v: Word, signal: u64)
     ensures { every (λ sizes. Leaves any sizes (change_coro v.0 (λ k. k) (close signal)) (table (of_mut slots)) (only m) (only m)) }
 {
     match heap::heap::coro_place(slots, m.count, v) {
-        CoroPlace::Not(_) => {}
-        CoroPlace::At(i) => heap::field::put_closing(slots, i, signal),
+        Err(_) => {}
+        Ok(i) => heap::field::put_closing(slots, i, signal),
     }
 }

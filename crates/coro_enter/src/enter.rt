@@ -6,40 +6,33 @@ ghost use Rattle.memory_world.specs.Contract.{Ok, Met, if_sound, only, of_mut};
 ghost use Rattle.coro_enter.specs.Enter.{refusal_of, entered_as, grown, MoveFits, Moves};
 
 use heap::fault::Fault;
-use heap::heap::CoroPlace;
 use heap::object::{CoroObj, CoroState};
 use heap::value::Word;
+use machine_state::called::Did;
 use memory_tables::frame::FRAME_WIDTH;
 use memory_world::machine::{Machine, Sizes};
 use model::coro::Entered;
 use model::machine::Driver;
 
-// What an entry leaves of the numbers, and answers.
-#[derive(Clone, Copy)]
-pub struct EnterDid {
-    pub machine: Machine,
-    pub answer: Entered,
-}
-
-// Why a coroutine is not entered, or None.
-pub fn refusal(m: Machine, sizes: Sizes, c: CoroObj) -> Fault
+// Whether a coroutine may be entered, or why not.
+pub fn refusal(m: Machine, sizes: Sizes, c: CoroObj) -> Result<(), Fault>
     requires { (m.depth ≤ sizes.depth) × (m.height ≤ sizes.stack) }
     ensures { result ≡ refusal_of m.height m.depth sizes c }
 {
     let s = c.state;
     if !s.is_resumable() {
-        return Fault::InvalidCoroState;
+        return Err(Fault::InvalidCoroState);
     }
     if c.frames == 0 {
-        return Fault::InvalidCoroState;
+        return Err(Fault::InvalidCoroState);
     }
     if ((sizes.depth - m.depth) as u64) < c.frames {
-        return Fault::StackOverflow;
+        return Err(Fault::StackOverflow);
     }
     if ((sizes.stack - m.height) as u64) < c.regs {
-        return Fault::StackOverflow;
+        return Err(Fault::StackOverflow);
     }
-    Fault::None
+    Ok(())
 }
 
 // Its row's registers and frames on top of the machine's.
@@ -69,17 +62,17 @@ pub(crate) fn move_in(
 }
 
 // What an entry answers.
-pub(crate) fn entered_as(c: CoroObj) -> Entered
+pub(crate) fn entered_as(c: CoroObj) -> Result<Entered, Fault>
     ensures { result ≡ entered_as c }
 {
     let s = c.state;
     match s {
-        CoroState::Created => Entered::Fresh,
-        CoroState::Running => Entered::Suspended(c.waiting),
-        CoroState::Yielded => Entered::Suspended(c.waiting),
-        CoroState::Awaiting => Entered::Suspended(c.waiting),
-        CoroState::Returned => Entered::Suspended(c.waiting),
-        CoroState::Failed => Entered::Suspended(c.waiting),
+        CoroState::Created => Ok(Entered::Fresh),
+        CoroState::Running => Ok(Entered::Suspended(c.waiting)),
+        CoroState::Yielded => Ok(Entered::Suspended(c.waiting)),
+        CoroState::Awaiting => Ok(Entered::Suspended(c.waiting)),
+        CoroState::Returned => Ok(Entered::Suspended(c.waiting)),
+        CoroState::Failed => Ok(Entered::Suspended(c.waiting)),
     }
 }
 
@@ -106,30 +99,31 @@ pub fn coro_enter(
     sizes: Sizes,
     v: Word,
     d: Driver,
-) -> EnterDid
+) -> Did<Result<Entered, Fault>>
     requires { Ok sizes (six stack.old frames.old chain.old slots.old saved_stack.old saved_frames.old plain) (only m) }
     ensures { Met if_sound sizes (coro_enter v.0 d) (six (of_mut stack) (of_mut frames) (of_mut chain) (of_mut slots) (of_mut saved_stack) (of_mut saved_frames)) (only m) (only result.machine) result.answer }
 {
     match heap::heap::coro_place(slots, m.count, v) {
-        CoroPlace::Not(f) => EnterDid {
+        Err(f) => Did {
             machine: m,
-            answer: Entered::Refused(f),
+            answer: Err(f),
         },
-        CoroPlace::At(i) => {
+        Ok(i) => {
             let c = heap::slot::coro_at(slots, i);
-            let fault = refusal(m, sizes, c);
-            if fault.number() != 0 {
-                return EnterDid {
+            match refusal(m, sizes, c) {
+                Err(fault) => Did {
                     machine: m,
-                    answer: Entered::Refused(fault),
-                };
-            }
-            move_in(stack, frames, saved_stack, saved_frames, m, sizes, c);
-            memory_tables::chain::push_active(chain, m.active, v.0, m.depth as u64, d);
-            heap::slot::put_entered(slots, i);
-            EnterDid {
-                machine: entered(m, c),
-                answer: entered_as(c),
+                    answer: Err(fault),
+                },
+                Ok(()) => {
+                    move_in(stack, frames, saved_stack, saved_frames, m, sizes, c);
+                    memory_tables::chain::push_active(chain, m.active, v.0, m.depth as u64, d);
+                    heap::slot::put_entered(slots, i);
+                    Did {
+                        machine: entered(m, c),
+                        answer: entered_as(c),
+                    }
+                }
             }
         }
     }

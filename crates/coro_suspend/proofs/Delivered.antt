@@ -9,6 +9,7 @@ use lib.Dec.{ltb, leb}
 use borrow.Author.Tests.{ltb-true}
 use Rattle.lists.proofs.Tables.{chunk-get}
 use Rattle.lists.proofs.Tests.{never}
+use Rattle.lists.proofs.Results.{ok-same}
 use Rattle.heap.specs.declared.object.CoroState.{CoroState}
 use Rattle.model.specs.Lists.{each}
 use Rattle.model.specs.Program.{Setup, is_function}
@@ -19,8 +20,8 @@ use Rattle.model.specs.Heap.{coro, fits}
 use Rattle.model.specs.Coro.{saved, growth, suspend_coroutine, suspend_innermost, coro_suspend}
 use Rattle.model.specs.Sound.{sound, frame_names, lies_under, driver_lies}
 use Rattle.model.specs.declared.coro.Event.{Event}
-use Rattle.model.specs.declared.coro.Keys.{Keys}
-use Rattle.model.specs.declared.coro.Suspension.{Suspension}
+use Rattle.std.specs.Prelude.{Option, Result, Ok}
+use Rattle.heap.specs.declared.fault.Fault.{Fault}
 use Rattle.model.specs.declared.machine.Active.{Active}
 use Rattle.model.specs.declared.machine.Driver.{Driver}
 use Rattle.model.specs.declared.machine.Frame.{Frame}
@@ -38,13 +39,13 @@ use Rattle.memory_world.specs.declared.machine.Sizes.{Sizes}
 use Rattle.machine_state.specs.Send.{SendFits}
 use Rattle.machine_state.proofs.Lands.{Lands, Receives, receives}
 
-module _ (st : CoroState) (dst payload : ℕ) (keys : Keys) (w : World) (snd : sound w ≡ true) (d : Driver) (event : Event) where
+module _ (st : CoroState) (dst payload : ℕ) (keys : Option (ℕ × ℕ)) (w : World) (snd : sound w ≡ true) (d : Driver) (event : Event) where
   known : Sound false w
   known = sound→ w snd (λ z. no_false z)
 
   -- what holds of a suspension that is done
-  abbrev Lie : After Suspension → Type 0
-  Lie o = o.answer ≡ Suspension.Done d event → Receives o.world d
+  abbrev Lie : After (Result (Driver × Event) Fault) → Type 0
+  Lie o = o.answer ≡ Ok (d, event) → Receives o.world d
 
   module _ (a : Active) (chain : List Active) (q : w.chain ≡ a ∷ chain) where
     c : Cut false w.setup (length w.stack) w.frames a chain
@@ -60,13 +61,13 @@ module _ (st : CoroState) (dst payload : ℕ) (keys : Keys) (w : World) (snd : s
         let high : length (take b w.stack) ≡ c.b.base = length-take b w.stack ∙ (omega arith) in
         picked Lie (not (fits w (growth w (saved st dst a.floor w) r))) (λ _ z. never cc)
         (λ _ z.
-        let e : a.driver ≡ d = cc in
+        let e : a.driver ≡ d = ap (λ (p : Driver × Event). p.0) (ok-same z) in
         subst (Receives _) e (receives s _ a.driver c.b.base c.low c.driver (names_of s c.lows) (below-cut s c) high))
 
   lie-on : (chain : List Active) → w.chain ≡ chain → Lie (suspend_innermost chain st dst payload keys w)
   lie-on [] q = λ z. never cc
   lie-on (a ∷ chain) q = picked Lie (leb (length w.frames) a.floor) (λ _ z. never cc) (λ _. lie-as a chain q (coro w a.coro))
 
-  pub suspend-lands : (coro_suspend st dst payload keys w).answer ≡ Suspension.Done d event → Receives (coro_suspend st dst payload keys w).world d
+  pub suspend-lands : (coro_suspend st dst payload keys w).answer ≡ Ok (d, event) → Receives (coro_suspend st dst payload keys w).world d
   unfolding coro_suspend
   suspend-lands = lie-on w.chain refl

@@ -10,13 +10,13 @@ use Rattle.lists.proofs.Tests.{never}
 use Rattle.heap.specs.Word.{nil}
 use Rattle.heap.specs.Charge.{fits, sat_add, with_used, charge_of}
 use Rattle.heap.specs.declared.heap.Heap.{Heap}
-use Rattle.heap.specs.declared.heap.Charged.TheVariants as C
+use Rattle.std.specs.Prelude.{Option, Some, None, Ok, Err}
+use Rattle.heap.specs.declared.fault.Fault.{Fault}
 use Rattle.heap.specs.declared.object.CoroState.{CoroState}
 use Rattle.model.specs.State.{is_awaiting}
 use Rattle.model.specs.Object.{Core, Rest, with_closing, with_signal, with_payload}
 use Rattle.model.specs.Coro.{sized, set_keys, unclose, event_of}
 use Rattle.model.specs.declared.coro.Event.{Event}
-use Rattle.model.specs.declared.coro.Keys.{Keys}
 use Rattle.memory_world.specs.Slots.{to_coro}
 use Rattle.memory_world.specs.declared.machine.Machine.{Machine}
 use Rattle.memory_world.specs.declared.machine.Sizes.{Sizes}
@@ -32,19 +32,19 @@ small_product a b p q = let h : a * b ≤ 128 * b = mul-le-mul_right b p in omeg
 abbrev pub heap_of : Machine → Sizes → Heap
 heap_of m l = record { count = m.count; slots = l.slots; used = m.used; limit = l.memory }
 
-pub spends : (h : Heap) (bytes : ℕ) → C.OutOfMemory ≡ charge_of h bytes → fits h.used h.limit bytes ≡ false
+pub spends : (h : Heap) (bytes : ℕ) (g : Fault) → Err g ≡ charge_of h bytes → (fits h.used h.limit bytes ≡ false) × (g ≡ Fault.OutOfMemory)
 unfolding pick
-spends h bytes e = go (fits h.used h.limit bytes) e
+spends h bytes g e = go (fits h.used h.limit bytes) e
   where
-    go : (b : Bool) → C.OutOfMemory ≡ pick b (C.Done (with_used (sat_add h.used bytes) h)) C.OutOfMemory → b ≡ false
+    go : (b : Bool) → Err g ≡ pick b (Ok (with_used (sat_add h.used bytes) h)) (Err Fault.OutOfMemory) → (b ≡ false) × (g ≡ Fault.OutOfMemory)
     go true q = never cc
-    go false q = refl
+    go false q = (refl, cc)
 
-pub pays : (h : Heap) (bytes : ℕ) (g : Heap) → C.Done g ≡ charge_of h bytes → (fits h.used h.limit bytes ≡ true) × (g.used ≡ sat_add h.used bytes)
+pub pays : (h : Heap) (bytes : ℕ) (g : Heap) → Ok g ≡ charge_of h bytes → (fits h.used h.limit bytes ≡ true) × (g.used ≡ sat_add h.used bytes)
 unfolding pick
 pays h bytes g e = go (fits h.used h.limit bytes) e
   where
-    go : (b : Bool) → C.Done g ≡ pick b (C.Done (with_used (sat_add h.used bytes) h)) C.OutOfMemory → (b ≡ true) × (g.used ≡ sat_add h.used bytes)
+    go : (b : Bool) → Ok g ≡ pick b (Ok (with_used (sat_add h.used bytes) h)) (Err Fault.OutOfMemory) → (b ≡ true) × (g.used ≡ sat_add h.used bytes)
     go true q = let z : g ≡ with_used (sat_add h.used bytes) h = cc in (refl, ap (λ (x : Heap). x.used) z)
     go false q = never cc
 
@@ -76,17 +76,17 @@ unclosed true k r = refl
 unclosed false k r = refl
 
 -- the record of what the model leaves
-pub suspended-is : (k k' : Core) (r : Rest) (payload : ℕ) (keys : Keys)
+pub suspended-is : (k k' : Core) (r : Rest) (payload : ℕ) (keys : Option (ℕ × ℕ))
     → to_coro k' (unclose k'.state (set_keys keys (with_payload payload (sized k' r))))
     ≡ suspended k'.state (length k'.regs) (length k'.frames) k'.waiting payload keys (to_coro k r)
-suspended-is k k' r payload Keys.Keep = unclosed (ignores k'.state r.closing) k' (with_payload payload (sized k' r))
-suspended-is k k' r payload (Keys.Set key largest) = unclosed (ignores k'.state r.closing) k' (set_keys (Keys.Set key largest) (with_payload payload (sized k' r)))
+suspended-is k k' r payload None = unclosed (ignores k'.state r.closing) k' (with_payload payload (sized k' r))
+suspended-is k k' r payload (Some (key, largest)) = unclosed (ignores k'.state r.closing) k' (set_keys (Some (key, largest)) (with_payload payload (sized k' r)))
 
 -- ---- the event
 
-pub event-is : (s : CoroState) (payload : ℕ) (keys : Keys) (r : Rest) → event_of s payload (set_keys keys r) ≡ event_as s payload r.closing (key_of keys r.key)
-event-is s payload Keys.Keep r = refl
-event-is s payload (Keys.Set key largest) r = refl
+pub event-is : (s : CoroState) (payload : ℕ) (keys : Option (ℕ × ℕ)) (r : Rest) → event_of s payload (set_keys keys r) ≡ event_as s payload r.closing (key_of keys r.key)
+event-is s payload None r = refl
+event-is s payload (Some (key, largest)) r = refl
 
 module _ (s : CoroState) (payload : ℕ) (closing : Bool) (key : ℕ) where
   pub awaits : is_awaiting s ≡ true → Event.Awaiting payload ≡ event_as s payload closing key

@@ -17,8 +17,8 @@ use Rattle.heap.specs.Table.{Slot, slot, put_object}
 use Rattle.heap.specs.Heap.{slots_of, coro_of, put_slot, SlotFits}
 use Rattle.heap.specs.declared.fault.Fault.{Fault}
 use Rattle.heap.specs.declared.heap.Heap.{Heap}
-use Rattle.heap.specs.declared.heap.Charged.TheVariants as C
-use Rattle.heap.specs.declared.heap.Coroutine.TheVariants as RV
+use Rattle.std.specs.Prelude.{Option, Result, None, Ok, Err}
+use Rattle.model.specs.declared.machine.Driver.{Driver}
 use Rattle.heap.specs.declared.object.CoroObj.{CoroObj}
 use Rattle.heap.specs.declared.object.CoroState.{CoroState}
 use Rattle.heap.specs.declared.object.Object as H
@@ -32,8 +32,6 @@ use Rattle.model.specs.Heap.{coro, fits}
 use Rattle.model.specs.Coro.{saved, sized, growth, set_keys, unclose, event_of, put_to_sleep, suspend_coroutine, suspend_innermost, coro_suspend}
 use Rattle.model.specs.Sound.{row_words, sound}
 use Rattle.model.specs.declared.coro.Event.{Event}
-use Rattle.model.specs.declared.coro.Keys.{Keys}
-use Rattle.model.specs.declared.coro.Suspension.{Suspension}
 use Rattle.model.specs.declared.machine.Active.{Active}
 use Rattle.model.specs.declared.machine.Fuel.{Fuel}
 use Rattle.claims_sound.proofs.States.{suspended-held}
@@ -71,15 +69,15 @@ top-is (b ∷ cs) ws n a p h e = ap (λ x. x ∷ cs) (sym (e ∙ top-active b cs
 
 -- ---- one world that the words stand for
 
-module _ (l : Sizes) (M : Lent) (m : Machine) (f : Fuel) (st : CoroState) (dst payload : ℕ) (keys : Keys) (w : World) (rep : Rep l w M m f) where
-  abbrev goal : After Suspension
+module _ (l : Sizes) (M : Lent) (m : Machine) (f : Fuel) (st : CoroState) (dst payload : ℕ) (keys : Option (ℕ × ℕ)) (w : World) (rep : Rep l w M m f) where
+  abbrev goal : After (Result (Driver × Event) Fault)
   goal = coro_suspend st dst payload keys w
 
   -- nothing runs
-  pub idle : m.active ≡ 0 → Does l goal M m f (Suspension.Refused Fault.CannotSuspend)
+  pub idle : m.active ≡ 0 → Does l goal M m f (Err Fault.CannotSuspend)
   unfolding coro_suspend
   idle e =
-      does l M m f goal w (Suspension.Refused Fault.CannotSuspend)
+      does l M m f goal w (Err Fault.CannotSuspend)
       (ap (λ c. suspend_innermost c st dst payload keys w) (no-chain w.chain (sym rep.chain.count ∙ e))) rep
 
   module _ (a : Active) (some : 1 ≤ m.active) (top : a ≡ active_in M.chain (m.active - 1)) where
@@ -93,21 +91,21 @@ module _ (l : Sizes) (M : Lent) (m : Machine) (f : Fuel) (st : CoroState) (dst p
     abbrev k' : Core
     k' = saved st dst a.floor w
 
-    abbrev found_as : After Suspension
+    abbrev found_as : After (Result (Driver × Event) Fault)
     found_as = suspend_coroutine (coro w a.coro) a rest k' payload keys w
 
-    abbrev stopped : After Suspension
-    stopped = after w (Suspension.Refused Fault.CannotSuspend)
+    abbrev stopped : After (Result (Driver × Event) Fault)
+    stopped = after w (Err Fault.CannotSuspend)
 
     model-top : goal ≡ pick (leb (length w.frames) a.floor) stopped found_as
     unfolding coro_suspend
     model-top = ap (λ c. suspend_innermost c st dst payload keys w) chain-is
 
     -- no frame of its own
-    pub no-frame : m.depth ≤ a.floor → Does l goal M m f (Suspension.Refused Fault.CannotSuspend)
+    pub no-frame : m.depth ≤ a.floor → Does l goal M m f (Err Fault.CannotSuspend)
     no-frame h =
         let e = rep.frames.count in
-        does l M m f goal w (Suspension.Refused Fault.CannotSuspend)
+        does l M m f goal w (Err Fault.CannotSuspend)
         (model-top ∙ ap (λ b. pick b stopped found_as) (le-leb (length w.frames) a.floor (omega arith)) ∙ pick_true _ _) rep
 
     module _ (deep : a.floor < m.depth) where
@@ -117,13 +115,13 @@ module _ (l : Sizes) (M : Lent) (m : Machine) (f : Fuel) (st : CoroState) (dst p
           model-top ∙ ap (λ b. pick b stopped found_as) (lt-leb (length w.frames) a.floor (omega arith)) ∙ pick-false _ _
 
       -- its word names no coroutine
-      pub not_found : (g : Fault) → RV.Not g ≡ coro_of (slots_of m.count M.slots) a.coro → Does l goal M m f (Suspension.Refused Fault.TypeError)
+      pub not_found : (g : Fault) → Err g ≡ coro_of (slots_of m.count M.slots) a.coro → Does l goal M m f (Err Fault.TypeError)
       not_found g e =
           let q = lacks w.slots a.coro g (e ∙ ap (λ xs. coro_of xs a.coro) (slots-are (to_slots w.slots) M.slots m.count rep.slots)) in
-          does l M m f goal w (Suspension.Refused Fault.TypeError) (model-deep ∙ ap (λ c. suspend_coroutine c a rest k' payload keys w) q.coro) rep
+          does l M m f goal w (Err Fault.TypeError) (model-deep ∙ ap (λ c. suspend_coroutine c a rest k' payload keys w) q.coro) rep
 
       -- it is in slot i, and the base of its body is read
-      module _ (i : ℕ) (c : CoroObj) (found : RV.At i c ≡ coro_of (slots_of m.count M.slots) a.coro) (base : ℕ) (read : base ≡ base_in M.frames a.floor) where
+      module _ (i : ℕ) (c : CoroObj) (found : Ok (i, c) ≡ coro_of (slots_of m.count M.slots) a.coro) (base : ℕ) (read : base ≡ base_in M.frames a.floor) where
         pub in-world : There w.slots a.coro i c
         in-world = there w.slots a.coro i c (found ∙ ap (λ xs. coro_of xs a.coro) (slots-are (to_slots w.slots) M.slots m.count rep.slots))
 
@@ -160,20 +158,21 @@ module _ (l : Sizes) (M : Lent) (m : Machine) (f : Fuel) (st : CoroState) (dst p
             ap₂ (λ x y. Charge.fits x y grow) rep.used rep.sizes.memory
             ∙ ap (λ n. Charge.fits w.used w.setup.limits.memory n) grow-is
 
-        abbrev lacking : After Suspension
-        lacking = after w (Suspension.Refused Fault.OutOfMemory)
+        abbrev lacking : After (Result (Driver × Event) Fault)
+        lacking = after w (Err Fault.OutOfMemory)
 
-        abbrev left : After Suspension
-        left = after (put_to_sleep a rest k' payload keys r w) (Suspension.Done a.driver (event_of st payload (set_keys keys r)))
+        abbrev left : After (Result (Driver × Event) Fault)
+        left = after (put_to_sleep a rest k' payload keys r w) (Ok (a.driver, event_of st payload (set_keys keys r)))
 
         model-found : goal ≡ pick (not (fits w (growth w k' r))) lacking left
         model-found = model-deep ∙ ap (λ x. suspend_coroutine x a rest k' payload keys w) in-world.coro
 
         -- the charge is refused
-        pub spent : C.OutOfMemory ≡ charge_of (heap_of m l) grow → Does l goal M m f (Suspension.Refused Fault.OutOfMemory)
-        spent e =
-            does l M m f goal w (Suspension.Refused Fault.OutOfMemory)
-            (model-found ∙ ap (λ b. pick (not b) lacking left) (sym fits-is ∙ spends (heap_of m l) grow e) ∙ pick_true _ _) rep
+        pub spent : (g : Fault) → Err g ≡ charge_of (heap_of m l) grow → Does l goal M m f (Err g)
+        spent g e =
+            let z = spends (heap_of m l) grow g e in
+            subst (λ x. Does l goal M m f (Err x)) (sym z.1)
+            (does l M m f goal w (Err Fault.OutOfMemory) (model-found ∙ ap (λ b. pick (not b) lacking left) (sym fits-is ∙ z.0) ∙ pick_true _ _) rep)
 
         module _ (snd : sound w ≡ true) where
           abbrev s : Setup
@@ -296,11 +295,11 @@ module _ (l : Sizes) (M : Lent) (m : Machine) (f : Fuel) (st : CoroState) (dst p
             event-same : event_of st payload (set_keys keys r) ≡ event_as st payload c.closing (key_of keys c.key)
             event-same = event-is st payload keys r ∙ ap (λ (x : CoroObj). event_as st payload x.closing (key_of keys x.key)) (sym in-world.is)
 
-            done : (g : Heap) → is_suspended st ≡ true → C.Done g ≡ charge_of (heap_of m l) grow
+            done : (g : Heap) → is_suspended st ≡ true → Ok g ≡ charge_of (heap_of m l) grow
                 → MovedOut M.stack M.frames M.saved_stack M.saved_frames stack' frames' saved_stack' saved_frames' m l c.row a.floor base
                 → ChainDo (drop 1) M.chain chain' m.active (m.active - 1)
                 → slots' ≡ put_slot M.slots i (slot (tag_of a.coro) (O.Coro d))
-                → Does l goal M' (shrunk m base a.floor g.used) f (Suspension.Done a.driver (event_as st payload c.closing (key_of keys c.key)))
+                → Does l goal M' (shrunk m base a.floor g.used) f (Ok (a.driver, event_as st payload c.closing (key_of keys c.key)))
             done g is paid moves pop mark =
                 let b = base_at a.floor w.frames in
                 let pay = pays (heap_of m l) grow g paid in
@@ -309,10 +308,10 @@ module _ (l : Sizes) (M : Lent) (m : Machine) (f : Fuel) (st : CoroState) (dst p
                 let held : is_finished k'.state ≡ false = suspended-held st is in
                 let on : StackLeft (row_words s) base w.stack rs r.row stack' saved_stack' = moves.on-stack (row_words s) w.stack rs r.row rep.stack rep.saved_stack regs-is wide in
                 let up : FramesLeft (frames_size s) a.floor base w.frames gs r.row frames' saved_frames' = moves.on-frames (frames_size s) w.frames gs r.row rep.frames rep.saved_frames frames-is tall in
-                let answer = Suspension.Done a.driver (event_as st payload c.closing (key_of keys c.key)) in
+                let answer = Ok (a.driver, event_as st payload c.closing (key_of keys c.key)) in
                 does l M' (shrunk m base a.floor g.used) f goal (put_to_sleep a rest k' payload keys r w) answer
                 (model-found ∙ ap (λ t. pick (not t) lacking left) (sym fits-is ∙ pay.0) ∙ pick-false _ _
-                ∙ ap (λ t. after (put_to_sleep a rest k' payload keys r w) (Suspension.Done a.driver t)) event-same)
+                ∙ ap (λ t. after (put_to_sleep a rest k' payload keys r w) (Ok (a.driver, t))) event-same)
                 (turn-slots l _ _ _ f
                 (turn-chain l _ _ _ f
                 (turn-frames l _ _ _ f
@@ -326,17 +325,17 @@ module _ (l : Sizes) (M : Lent) (m : Machine) (f : Fuel) (st : CoroState) (dst p
                 (subst (λ z. SavedFrames (frames_size s) z saved_frames')
                 (ap (λ n. set gs r.row (map (lower n) (above a.floor w.frames))) base-is ∙ frames-set w.slots a.coro k r known.points known.own known.live k' r' row_same held s.limits.rows) up.saved))
 
-            pub accepted : (g : Heap) (x : CoroObj) (n : Machine) (event : Event) → is_suspended st ≡ true → C.Done g ≡ charge_of (heap_of m l) grow
+            pub accepted : (g : Heap) (x : CoroObj) (n : Machine) (event : Event) → is_suspended st ≡ true → Ok g ≡ charge_of (heap_of m l) grow
                 → MovedOut M.stack M.frames M.saved_stack M.saved_frames stack' frames' saved_stack' saved_frames' m l c.row a.floor base
                 → ChainDo (drop 1) M.chain chain' m.active (m.active - 1)
                 → x ≡ d
                 → slots' ≡ put_chunk width M.slots i (suspended_words x (chunk_at width M.slots i))
                 → event ≡ event_as st payload c.closing x.key
                 → n ≡ shrunk m base a.floor g.used
-                → Does l goal M' n f (Suspension.Done a.driver event)
+                → Does l goal M' n f (Ok (a.driver, event))
             accepted g x n event is paid moves pop ex mark ee en =
-                subst (λ z. Does l goal M' z f (Suspension.Done a.driver event)) (sym en)
-                (subst (λ z. Does l goal M' (shrunk m base a.floor g.used) f (Suspension.Done a.driver z))
+                subst (λ z. Does l goal M' z f (Ok (a.driver, event))) (sym en)
+                (subst (λ z. Does l goal M' (shrunk m base a.floor g.used) f (Ok (a.driver, z)))
                 (sym (ee ∙ ap (λ (y : CoroObj). event_as st payload c.closing y.key) ex))
                 (done g is paid moves pop (mark ∙ ap₂ (λ y z. put_chunk width M.slots i (suspended_words y z)) ex (there-words w.slots a.coro i c in-world M.slots m.count rep.slots))))
 
@@ -347,9 +346,9 @@ module _ {l : Sizes} {stack frames chain slots saved_stack saved_frames : List �
   abbrev M₀ : Lent
   M₀ = lent stack frames chain slots saved_stack saved_frames p.ok.beside
 
-  pub found_before : Before l M₀ m p.ok.beside.fuel st 0 0 Keys.Keep p.ok.world p.ok.rep a p.some p.top p.floor i c p.coro base read p.ok.sound
-  found_before = before l M₀ m p.ok.beside.fuel st 0 0 Keys.Keep p.ok.world p.ok.rep a p.some p.top p.floor i c p.coro base read p.ok.sound
+  pub found_before : Before l M₀ m p.ok.beside.fuel st 0 0 None p.ok.world p.ok.rep a p.some p.top p.floor i c p.coro base read p.ok.sound
+  found_before = before l M₀ m p.ok.beside.fuel st 0 0 None p.ok.world p.ok.rep a p.some p.top p.floor i c p.coro base read p.ok.sound
 
   pub found-leaves : LeaveFit stack frames saved_stack saved_frames m l c.row a.floor base
   found-leaves =
-      leave-fit l M₀ m p.ok.beside.fuel st 0 0 Keys.Keep p.ok.world p.ok.rep a p.some p.top p.floor i c p.coro base read p.ok.sound p.ok.room
+      leave-fit l M₀ m p.ok.beside.fuel st 0 0 None p.ok.world p.ok.rep a p.some p.top p.floor i c p.coro base read p.ok.sound p.ok.room

@@ -1,14 +1,12 @@
 -- coro.rs: the parts of coro_suspend, by the coroutine's record.
-use Rattle.std.specs.Prelude.{◌≡◌, Bool, true, false, not, ◌&&◌, List, ℕ, ◌+◌, ◌-◌, ◌*◌, ◌≤◌, ◌<◌, max, length}
+use Rattle.std.specs.Prelude.{◌≡◌, Bool, true, false, not, ◌&&◌, List, ℕ, ◌+◌, ◌-◌, ◌*◌, ◌≤◌, ◌<◌, max, length, Option, Result, Some, None}
 use Rattle.lists.specs.Pick.{pick}
 use Rattle.heap.specs.Word.{nil}
 use Rattle.heap.specs.Heap.{slots_of, coro_of}
-use Rattle.heap.specs.declared.heap.Coroutine.TheVariants as RV
 use Rattle.heap.specs.declared.object.CoroObj.{CoroObj}
 use Rattle.heap.specs.declared.object.CoroState.{CoroState}
 use Rattle.model.specs.State.{is_awaiting, is_suspended}
 use Rattle.model.specs.declared.coro.Event.{Event}
-use Rattle.model.specs.declared.coro.Keys.{Keys}
 use Rattle.model.specs.declared.machine.Active.{Active}
 use Rattle.memory_tables.specs.Layout.{active_in}
 use Rattle.memory_tables.specs.Does.{LeavesStack, LeavesFrames, LeaveFits}
@@ -22,20 +20,20 @@ abbrev pub growth_of : Sizes → CoroObj → ℕ → ℕ → ℕ
 growth_of sizes c regs frames = (regs - c.maxregs) * 8 + (frames - c.maxframes) * sizes.costs.frame
 
 -- the key and the largest integer key after: those of the yield, or as they were
-abbrev pub key_of : Keys → ℕ → ℕ
-key_of Keys.Keep k = k
-key_of (Keys.Set key largest) k = key
+abbrev pub key_of : Option (ℕ × ℕ) → ℕ → ℕ
+key_of None k = k
+key_of (Some (key, largest)) k = key
 
-abbrev pub largest_of : Keys → ℕ → ℕ
-largest_of Keys.Keep n = n
-largest_of (Keys.Set key largest) n = largest
+abbrev pub largest_of : Option (ℕ × ℕ) → ℕ → ℕ
+largest_of None n = n
+largest_of (Some (key, largest)) n = largest
 
 -- it yields while it is being closed
 abbrev pub ignores : CoroState → Bool → Bool
 ignores s closing = not (is_awaiting s) && closing
 
 -- the record of a suspended coroutine, with so many registers and frames saved
-abbrev pub suspended : CoroState → ℕ → ℕ → ℕ → ℕ → Keys → CoroObj → CoroObj
+abbrev pub suspended : CoroState → ℕ → ℕ → ℕ → ℕ → Option (ℕ × ℕ) → CoroObj → CoroObj
 suspended s regs frames dst payload keys c =
     record {
       state = s;
@@ -100,7 +98,7 @@ pub record Found (sizes : Sizes) (stack frames chain slots saved_stack saved_fra
   pub some : 1 ≤ m.active
   pub top : a ≡ active_in chain (m.active - 1)
   pub floor : a.floor < m.depth
-  pub coro : RV.At i c ≡ coro_of (slots_of m.count slots) a.coro
+  pub coro : Result.Ok (i, c) ≡ coro_of (slots_of m.count slots) a.coro
 
 -- a sound world, and a state in which a coroutine is suspended
 pub record SuspendFits (sizes : Sizes) (stack frames chain slots saved_stack saved_frames : List ℕ) (m : Machine) (s : CoroState) : Type 0 where

@@ -8,21 +8,15 @@ ghost use Rattle.memory_world.specs.Lendings.{six};
 ghost use Rattle.memory_world.specs.Contract.{Met, if_sound, only, of_mut};
 
 use heap::fault::Fault;
-use heap::heap::{Charged, CoroPlace, Heap};
+use heap::heap::Heap;
 use heap::int::larger;
 use heap::object::{CoroObj, CoroState};
 use heap::value::Word;
+use machine_state::called::Did;
 use memory_tables::frame::FRAME_WIDTH;
 use memory_world::machine::{Machine, Sizes};
-use model::coro::{Event, Keys, Suspension};
-use model::machine::Active;
-
-// What a suspension leaves of the numbers, and answers.
-#[derive(Clone, Copy)]
-pub struct SuspendDid {
-    pub machine: Machine,
-    pub answer: Suspension,
-}
+use model::coro::Event;
+use model::machine::{Active, Driver};
 
 // saturating_sub
 fn beyond(n: u64, most: u64) -> u64
@@ -42,21 +36,21 @@ pub(crate) fn growth(sizes: Sizes, c: CoroObj, regs: u64, frames: u64) -> u64
     wide * 8 + deep * costs.frame
 }
 
-fn key_of(keys: Keys, k: u64) -> u64
+fn key_of(keys: Option<(u64, u64)>, k: u64) -> u64
     ensures { result ≡ key_of keys k }
 {
     match keys {
-        Keys::Keep => k,
-        Keys::Set { key, largest: _ } => key,
+        None => k,
+        Some((key, _)) => key,
     }
 }
 
-fn largest_of(keys: Keys, n: u64) -> u64
+fn largest_of(keys: Option<(u64, u64)>, n: u64) -> u64
     ensures { result ≡ largest_of keys n }
 {
     match keys {
-        Keys::Keep => n,
-        Keys::Set { key: _, largest } => largest,
+        None => n,
+        Some((_, largest)) => largest,
     }
 }
 
@@ -86,7 +80,7 @@ pub(crate) fn suspended(
     frames: u64,
     dst: u64,
     payload: u64,
-    keys: Keys,
+    keys: Option<(u64, u64)>,
     c: CoroObj,
 ) -> CoroObj
     ensures { result ≡ suspended s regs frames dst payload keys c }
@@ -171,11 +165,11 @@ pub(crate) fn suspend_found(
     state: CoroState,
     dst: u64,
     payload: u64,
-    keys: Keys,
+    keys: Option<(u64, u64)>,
     a: Active,
     i: usize,
     c: CoroObj,
-) -> SuspendDid
+) -> Did<Result<(Driver, Event), Fault>>
     requires { Found sizes stack.old frames.old chain.old slots.old saved_stack.old saved_frames.old m state a i c }
     ensures { Met if_sound sizes (coro_suspend state dst payload keys) (six (of_mut stack) (of_mut frames) (of_mut chain) (of_mut slots) (of_mut saved_stack) (of_mut saved_frames)) (only m) (only result.machine) result.answer }
 {
@@ -191,11 +185,11 @@ pub(crate) fn suspend_found(
         limit: sizes.memory,
     };
     match h.charge(grow) {
-        Charged::OutOfMemory => SuspendDid {
+        Err(f) => Did {
             machine: m,
-            answer: Suspension::Refused(Fault::OutOfMemory),
+            answer: Err(f),
         },
-        Charged::Done(g) => {
+        Ok(g) => {
             move_out(
                 stack,
                 frames,
@@ -212,9 +206,9 @@ pub(crate) fn suspend_found(
             heap::slot::put_sleep(slots, i, d);
             let driver = a.driver;
             let event = event_of(state, payload, c.closing, d.key);
-            SuspendDid {
+            Did {
                 machine: shrunk(m, base, floor, g.used),
-                answer: Suspension::Done { driver, event },
+                answer: Ok((driver, event)),
             }
         }
     }
@@ -233,30 +227,30 @@ pub fn coro_suspend(
     state: CoroState,
     dst: u64,
     payload: u64,
-    keys: Keys,
-) -> SuspendDid
+    keys: Option<(u64, u64)>,
+) -> Did<Result<(Driver, Event), Fault>>
     requires { SuspendFits sizes stack.old frames.old chain.old slots.old saved_stack.old saved_frames.old m state }
     ensures { Met if_sound sizes (coro_suspend state dst payload keys) (six (of_mut stack) (of_mut frames) (of_mut chain) (of_mut slots) (of_mut saved_stack) (of_mut saved_frames)) (only m) (only result.machine) result.answer }
 {
     if m.active == 0 {
-        return SuspendDid {
+        return Did {
             machine: m,
-            answer: Suspension::Refused(Fault::CannotSuspend),
+            answer: Err(Fault::CannotSuspend),
         };
     }
     let a = memory_tables::active::active_at(chain, m.active - 1);
     if (m.depth as u64) <= a.floor {
-        return SuspendDid {
+        return Did {
             machine: m,
-            answer: Suspension::Refused(Fault::CannotSuspend),
+            answer: Err(Fault::CannotSuspend),
         };
     }
     match heap::heap::coro_place(slots, m.count, Word(a.coro)) {
-        CoroPlace::Not(_) => SuspendDid {
+        Err(_) => Did {
             machine: m,
-            answer: Suspension::Refused(Fault::TypeError),
+            answer: Err(Fault::TypeError),
         },
-        CoroPlace::At(i) => {
+        Ok(i) => {
             let c = heap::slot::coro_at(slots, i);
             suspend_found(
                 stack,

@@ -5,9 +5,10 @@ ghost use Rattle.memory_world.specs.Contract.{Met, if_sound, with, of_mut, of_re
 
 use crate::entering::entering;
 use exec_yield::yielding::{coro_await, coro_yield, yield_kv};
-use machine_state::step::Stepped;
+use machine_state::called::Called;
 use memory_world::machine::{Machine, Sizes};
 use model::call::Op;
+use model::exec::Step;
 use model::machine::Fuel;
 
 // The arm of an instruction; nothing is said of another call.
@@ -23,9 +24,9 @@ pub fn body(
     sizes: Sizes,
     fuel: Fuel,
     op: Op,
-) -> Stepped
+) -> Called<Step>
     requires { Past sizes (six_setup stack.old frames.old chain.old slots.old saved_stack.old saved_frames.old setup.now plain) m fuel op }
-    ensures { OfInstruction op (λ pc operands arm. Met if_sound sizes arm (six_setup (of_mut stack) (of_mut frames) (of_mut chain) (of_mut slots) (of_mut saved_stack) (of_mut saved_frames) (of_ref setup)) (with m fuel) (with result.machine result.fuel) result.step) }
+    ensures { OfInstruction op (λ pc operands arm. Met if_sound sizes arm (six_setup (of_mut stack) (of_mut frames) (of_mut chain) (of_mut slots) (of_mut saved_stack) (of_mut saved_frames) (of_ref setup)) (with m fuel) (with result.machine result.fuel) result.answer) }
 {
     match op {
         Op::Yield { pc, dst, src } => coro_yield(

@@ -8,9 +8,10 @@ use exec_close::close::coro_close;
 use exec_enter::resume::resume;
 use exec_enter::throw::resume_throw;
 use exec_iter::iter::iter_next;
-use machine_state::step::Stepped;
+use machine_state::called::Called;
 use memory_world::machine::{Machine, Sizes};
 use model::call::Op;
+use model::exec::Step;
 use model::machine::Fuel;
 
 pub(crate) fn entering(
@@ -25,9 +26,9 @@ pub(crate) fn entering(
     sizes: Sizes,
     fuel: Fuel,
     op: Op,
-) -> Stepped
+) -> Called<Step>
     requires { Past sizes (six_setup stack.old frames.old chain.old slots.old saved_stack.old saved_frames.old setup.now plain) m fuel op }
-    ensures { (Suspending op → ⊥) → OfInstruction op (λ pc operands arm. Met if_sound sizes arm (six_setup (of_mut stack) (of_mut frames) (of_mut chain) (of_mut slots) (of_mut saved_stack) (of_mut saved_frames) (of_ref setup)) (with m fuel) (with result.machine result.fuel) result.step) }
+    ensures { (Suspending op → ⊥) → OfInstruction op (λ pc operands arm. Met if_sound sizes arm (six_setup (of_mut stack) (of_mut frames) (of_mut chain) (of_mut slots) (of_mut saved_stack) (of_mut saved_frames) (of_ref setup)) (with m fuel) (with result.machine result.fuel) result.answer) }
 {
     match op {
         Op::Resume { pc, dst, coro, src } => {
@@ -46,11 +47,11 @@ pub(crate) fn entering(
                 src as u64,
             );
             let machine = did.machine;
-            let step = did.step;
-            Stepped {
+            let step = did.answer;
+            Called {
                 machine,
                 fuel,
-                step,
+                answer: step,
             }
         }
         Op::ResumeThrow { pc, dst, coro, src } => {
@@ -69,11 +70,11 @@ pub(crate) fn entering(
                 src as u64,
             );
             let machine = did.machine;
-            let step = did.step;
-            Stepped {
+            let step = did.answer;
+            Called {
                 machine,
                 fuel,
-                step,
+                answer: step,
             }
         }
         Op::CoroClose { pc, dst, coro, src } => {
@@ -92,11 +93,11 @@ pub(crate) fn entering(
                 src as u64,
             );
             let machine = did.machine;
-            let step = did.step;
-            Stepped {
+            let step = did.answer;
+            Called {
                 machine,
                 fuel,
-                step,
+                answer: step,
             }
         }
         Op::IterNext {
@@ -122,11 +123,11 @@ pub(crate) fn entering(
                 src as u64,
             );
             let machine = did.machine;
-            let step = did.step;
-            Stepped {
+            let step = did.answer;
+            Called {
                 machine,
                 fuel,
-                step,
+                answer: step,
             }
         }
         _ => staying(

@@ -7,7 +7,7 @@ use exec_ask::ask::{coro_current, coro_key, coro_result, coro_status};
 use exec_make::indirect::coro_new_indirect;
 use exec_make::new::coro_new;
 use exec_make::spawn::spawn;
-use machine_state::step::Stepped;
+use machine_state::called::Called;
 use memory_world::machine::{Machine, Sizes};
 use model::call::Op;
 use model::exec::Step;
@@ -25,9 +25,9 @@ pub(crate) fn staying(
     sizes: Sizes,
     fuel: Fuel,
     op: Op,
-) -> Stepped
+) -> Called<Step>
     requires { Past sizes (six_setup stack.old frames.old chain.old slots.old saved_stack.old saved_frames.old setup.now plain) m fuel op }
-    ensures { (Suspending op → ⊥) → (Entering op → ⊥) → OfInstruction op (λ pc operands arm. Met if_sound sizes arm (six_setup (of_mut stack) (of_mut frames) (of_mut chain) (of_mut slots) (of_mut saved_stack) (of_mut saved_frames) (of_ref setup)) (with m fuel) (with result.machine result.fuel) result.step) }
+    ensures { (Suspending op → ⊥) → (Entering op → ⊥) → OfInstruction op (λ pc operands arm. Met if_sound sizes arm (six_setup (of_mut stack) (of_mut frames) (of_mut chain) (of_mut slots) (of_mut saved_stack) (of_mut saved_frames) (of_ref setup)) (with m fuel) (with result.machine result.fuel) result.answer) }
 {
     match op {
         Op::CoroNew {
@@ -50,11 +50,11 @@ pub(crate) fn staying(
                 argc as u64,
             );
             let machine = did.machine;
-            let step = did.step;
-            Stepped {
+            let step = did.answer;
+            Called {
                 machine,
                 fuel,
-                step,
+                answer: step,
             }
         }
         Op::CoroNewIndirect {
@@ -77,11 +77,11 @@ pub(crate) fn staying(
                 argc as u64,
             );
             let machine = did.machine;
-            let step = did.step;
-            Stepped {
+            let step = did.answer;
+            Called {
                 machine,
                 fuel,
-                step,
+                answer: step,
             }
         }
         Op::Spawn {
@@ -106,40 +106,40 @@ pub(crate) fn staying(
         ),
         Op::CoroStatus { pc: _, dst, coro } => {
             let step = coro_status(stack, frames, slots, m, dst as u64, coro as u64);
-            Stepped {
+            Called {
                 machine: m,
                 fuel,
-                step,
+                answer: step,
             }
         }
         Op::CoroCurrent { pc: _, dst } => {
             let step = coro_current(stack, frames, chain, m, dst as u64);
-            Stepped {
+            Called {
                 machine: m,
                 fuel,
-                step,
+                answer: step,
             }
         }
         Op::CoroKey { pc: _, dst, coro } => {
             let step = coro_key(stack, frames, slots, m, dst as u64, coro as u64);
-            Stepped {
+            Called {
                 machine: m,
                 fuel,
-                step,
+                answer: step,
             }
         }
         Op::CoroResult { pc: _, dst, coro } => {
             let step = coro_result(stack, frames, slots, m, dst as u64, coro as u64);
-            Stepped {
+            Called {
                 machine: m,
                 fuel,
-                step,
+                answer: step,
             }
         }
-        _ => Stepped {
+        _ => Called {
             machine: m,
             fuel,
-            step: Step::Next,
+            answer: Step::Next,
         },
     }
 }

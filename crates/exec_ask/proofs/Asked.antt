@@ -16,7 +16,7 @@ use Rattle.model.specs.Frames.{reg, put_reg}
 use Rattle.model.specs.Heap.{coro, not_a}
 use Rattle.model.specs.Coro.{coro_state}
 use Rattle.model.specs.Exec.{fault, put, status_of, coro_status, current, coro_current, key_of, coro_key, result_in, coro_result}
-use Rattle.model.specs.declared.coro.Stated.{Stated}
+use Rattle.std.specs.Prelude.{Ok, Err}
 use Rattle.model.specs.declared.exec.Step.{Step}
 use Rattle.model.specs.declared.machine.Active.{Active}
 use Rattle.model.specs.declared.machine.Fuel.{Fuel}
@@ -49,11 +49,11 @@ module _ (l : Sizes) (M : Lent) (m : Machine) (f : Fuel) (w : World) (dst : ℕ)
   -- ---- the others, of the word v in register c
 
   module _ (c v : ℕ) (is : v ≡ reg w c) where
-    pub status-refused : (g : Fault) → Stated.Refused g ≡ coro_state w v → Rep l w M m f → Does l (coro_status dst c w) M m f (Step.Fault g)
+    pub status-refused : (g : Fault) → Err g ≡ coro_state w v → Rep l w M m f → Does l (coro_status dst c w) M m f (Step.Fault g)
     unfolding coro_status
     status-refused g e rep = does l M m f (coro_status dst c w) w (Step.Fault g) (ap (λ x. status_of (coro_state w x) dst w) (sym is) ∙ ap (λ s. status_of s dst w) (sym e)) rep
 
-    pub status-told : (s : CoroState) (x : ℕ) → Stated.In s ≡ coro_state w v → x ≡ code_of s → Rep l (put_reg dst x w) M m f → Does l (coro_status dst c w) M m f Step.Next
+    pub status-told : (s : CoroState) (x : ℕ) → Ok s ≡ coro_state w v → x ≡ code_of s → Rep l (put_reg dst x w) M m f → Does l (coro_status dst c w) M m f Step.Next
     unfolding coro_status
     status-told s x e q rep =
         does l M m f (coro_status dst c w) (put_reg dst x w) Step.Next

@@ -6,12 +6,10 @@ ghost use Rattle.memory_world.specs.Lendings.{top_table, top_chain};
 ghost use Rattle.memory_world.specs.Contract.{Met, any, every, only, of_mut, of_ref};
 
 use heap::fault::Fault;
-use heap::heap::CoroPlace;
 use heap::value::Word;
 use machine_state::coro::coro_state;
 use machine_state::frame::put;
 use memory_world::machine::Machine;
-use model::coro::Stated;
 use model::exec::Step;
 
 // coro.rs: exec, CoroStatus.
@@ -28,8 +26,8 @@ pub fn coro_status(
 {
     let v = memory_tables::stack::reg(stack, frames, m.height, m.depth, c as usize);
     match coro_state(slots, m, Word(v)) {
-        Stated::Refused(f) => Step::Fault(f),
-        Stated::In(s) => {
+        Err(refused) => Step::Fault(refused),
+        Ok(s) => {
             let code = s.code();
             put(stack, frames, m, dst, code);
             Step::Next
@@ -73,8 +71,8 @@ pub fn coro_key(
 {
     let v = memory_tables::stack::reg(stack, frames, m.height, m.depth, c as usize);
     match heap::heap::coro_place(slots, m.count, Word(v)) {
-        CoroPlace::Not(f) => Step::Fault(f),
-        CoroPlace::At(i) => {
+        Err(f) => Step::Fault(f),
+        Ok(i) => {
             let key = heap::field::key_at(slots, i);
             put(stack, frames, m, dst, key);
             Step::Next
@@ -96,8 +94,8 @@ pub fn coro_result(
 {
     let v = memory_tables::stack::reg(stack, frames, m.height, m.depth, c as usize);
     match heap::heap::coro_place(slots, m.count, Word(v)) {
-        CoroPlace::Not(f) => Step::Fault(f),
-        CoroPlace::At(i) => {
+        Err(f) => Step::Fault(f),
+        Ok(i) => {
             let state = heap::field::state_at(slots, i);
             if !state.is_returned() {
                 return Step::Fault(Fault::InvalidCoroState);

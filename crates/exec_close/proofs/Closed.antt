@@ -3,8 +3,6 @@ use mathlib.Core.Path.{◌≡◌, refl, sym, ap, ap₂, ◌∙◌, subst}
 use mathlib.Core.Bool.{true, false}
 use mathlib.Core.List.{[], ◌∷◌}
 use Prim.Native.Nat.{ℕ}
-use types.Run.{OneOf, miss}
-use denote.Enum.Declared.{tag_of}
 use Rattle.lists.specs.Pick.{pick, pick_true, pick-false}
 use Rattle.heap.specs.Word.{nil}
 use Rattle.heap.specs.declared.fault.Fault.{Fault}
@@ -16,9 +14,8 @@ use Rattle.model.specs.Heap.{change_coro}
 use Rattle.model.specs.Coro.{coro_state, finish_coroutine}
 use Rattle.model.specs.Cleanup.{close}
 use Rattle.model.specs.Exec.{fault, put, close_entered, close_in, close_to, coro_close}
+use Rattle.std.specs.Prelude.{Result, Ok, Err}
 use Rattle.model.specs.declared.coro.Entered.{Entered}
-use Rattle.model.specs.declared.coro.Stated.{Stated}
-use Rattle.model.specs.contracts.coro.Entered as Entered'
 use Rattle.model.specs.declared.exec.Step.{Step}
 use Rattle.model.specs.declared.machine.Fuel.{Fuel}
 use Rattle.claims_sound.proofs.Tests.{no_false, no_true}
@@ -31,20 +28,14 @@ use Rattle.exec_close.specs.Close.{end_created}
 
 -- ---- after an entry
 
-module _ (l : Sizes) (M : Lent) (m : Machine) (f : Fuel) (w : World) (v signal : ℕ) (a : Entered) where
+module _ (l : Sizes) (M : Lent) (m : Machine) (f : Fuel) (w : World) (v signal : ℕ) (a : Result Entered Fault) where
   abbrev closing : World
   closing = change_coro v (λ k. k) (close signal) w
 
-  -- any answer but a refusal
-  going_on : (x : Entered) → OneOf (0 ∷ 1 ∷ []) (tag_of Entered'.the_type x) → close_entered v signal w x ≡ after closing (Step.Unwind (Fault.Throw signal))
-  going_on Entered.Fresh h = refl
-  going_on (Entered.Suspended d) h = refl
-  going_on (Entered.Refused g) h = absurd (miss (0 ∷ 1 ∷ []) 2 tt h)
+  pub closes-entered : (e : Entered) → a ≡ Ok e → Rep l closing M m f → Does l (close_entered v signal w a) M m f (Step.Unwind (Fault.Throw signal))
+  closes-entered e q rep = does l M m f (close_entered v signal w a) closing (Step.Unwind (Fault.Throw signal)) (ap (close_entered v signal w) q) rep
 
-  pub closes-entered : OneOf (0 ∷ 1 ∷ []) (tag_of Entered'.the_type a) → Rep l closing M m f → Does l (close_entered v signal w a) M m f (Step.Unwind (Fault.Throw signal))
-  closes-entered h rep = does l M m f (close_entered v signal w a) closing (Step.Unwind (Fault.Throw signal)) (going_on a h) rep
-
-  pub closes-refused : (g : Fault) → a ≡ Entered.Refused g → Rep l w M m f → Does l (close_entered v signal w a) M m f (Step.Fault g)
+  pub closes-refused : (g : Fault) → a ≡ Err g → Rep l w M m f → Does l (close_entered v signal w a) M m f (Step.Fault g)
   closes-refused g e rep = does l M m f (close_entered v signal w a) w (Step.Fault g) (ap (close_entered v signal w) e) rep
 
 -- ---- a coroutine that was never entered, or another
@@ -60,7 +51,7 @@ module _ (l : Sizes) (M : Lent) (m : Machine) (f : Fuel) (w : World) (s : CoroSt
 
 module _ (l : Sizes) (M : Lent) (m : Machine) (f : Fuel) (w : World) (pc dst v signal : ℕ) where
   -- suspended
-  suspended-one : (s : CoroState) → is_suspended s ≡ true → close_to (Stated.In s) pc dst v signal w ≡ close_in pc dst v signal w
+  suspended-one : (s : CoroState) → is_suspended s ≡ true → close_to (Ok s) pc dst v signal w ≡ close_in pc dst v signal w
   suspended-one CoroState.Created e = no_false e
   suspended-one CoroState.Running e = no_false e
   suspended-one CoroState.Yielded e = refl
@@ -68,7 +59,7 @@ module _ (l : Sizes) (M : Lent) (m : Machine) (f : Fuel) (w : World) (pc dst v s
   suspended-one CoroState.Returned e = no_false e
   suspended-one CoroState.Failed e = no_false e
 
-  busy : (s : CoroState) → is_running s ≡ true → close_to (Stated.In s) pc dst v signal w ≡ fault w Fault.InvalidCoroState
+  busy : (s : CoroState) → is_running s ≡ true → close_to (Ok s) pc dst v signal w ≡ fault w Fault.InvalidCoroState
   busy CoroState.Created e = no_false e
   busy CoroState.Running e = refl
   busy CoroState.Yielded e = no_false e
@@ -76,7 +67,7 @@ module _ (l : Sizes) (M : Lent) (m : Machine) (f : Fuel) (w : World) (pc dst v s
   busy CoroState.Returned e = no_false e
   busy CoroState.Failed e = no_false e
 
-  idle : (s : CoroState) → is_suspended s ≡ false → is_running s ≡ false → close_to (Stated.In s) pc dst v signal w ≡ put dst nil (end_created s v w)
+  idle : (s : CoroState) → is_suspended s ≡ false → is_running s ≡ false → close_to (Ok s) pc dst v signal w ≡ put dst nil (end_created s v w)
   unfolding pick
   idle CoroState.Created p q = refl
   idle CoroState.Running p q = no_true q
@@ -85,23 +76,23 @@ module _ (l : Sizes) (M : Lent) (m : Machine) (f : Fuel) (w : World) (pc dst v s
   idle CoroState.Returned p q = refl
   idle CoroState.Failed p q = refl
 
-  pub close-suspended-one : (s : CoroState) (t : Step) → is_suspended s ≡ true → Does l (close_in pc dst v signal w) M m f t → Does l (close_to (Stated.In s) pc dst v signal w) M m f t
+  pub close-suspended-one : (s : CoroState) (t : Step) → is_suspended s ≡ true → Does l (close_in pc dst v signal w) M m f t → Does l (close_to (Ok s) pc dst v signal w) M m f t
   close-suspended-one s t e d = subst (λ z. Does l z M m f t) (sym (suspended-one s e)) d
 
-  pub close-busy : (s : CoroState) → is_running s ≡ true → Rep l w M m f → Does l (close_to (Stated.In s) pc dst v signal w) M m f (Step.Fault Fault.InvalidCoroState)
-  close-busy s e rep = does l M m f (close_to (Stated.In s) pc dst v signal w) w (Step.Fault Fault.InvalidCoroState) (busy s e) rep
+  pub close-busy : (s : CoroState) → is_running s ≡ true → Rep l w M m f → Does l (close_to (Ok s) pc dst v signal w) M m f (Step.Fault Fault.InvalidCoroState)
+  close-busy s e rep = does l M m f (close_to (Ok s) pc dst v signal w) w (Step.Fault Fault.InvalidCoroState) (busy s e) rep
 
-  pub close-idle : (s : CoroState) → is_suspended s ≡ false → is_running s ≡ false → Rep l (put_reg dst nil (end_created s v w)) M m f → Does l (close_to (Stated.In s) pc dst v signal w) M m f Step.Next
-  close-idle s p q rep = does l M m f (close_to (Stated.In s) pc dst v signal w) (put_reg dst nil (end_created s v w)) Step.Next (idle s p q) rep
+  pub close-idle : (s : CoroState) → is_suspended s ≡ false → is_running s ≡ false → Rep l (put_reg dst nil (end_created s v w)) M m f → Does l (close_to (Ok s) pc dst v signal w) M m f Step.Next
+  close-idle s p q rep = does l M m f (close_to (Ok s) pc dst v signal w) (put_reg dst nil (end_created s v w)) Step.Next (idle s p q) rep
 
   -- the words in its registers
   module _ (c src : ℕ) (is : v ≡ reg w c) (es : signal ≡ reg w src) where
-    by-words : (s : Stated) → s ≡ coro_state w v → close_to s pc dst v signal w ≡ coro_close pc dst c src w
+    by-words : (s : Result CoroState Fault) → s ≡ coro_state w v → close_to s pc dst v signal w ≡ coro_close pc dst c src w
     unfolding coro_close
     by-words s e = ap (λ t. close_to t pc dst v signal w) e ∙ ap₂ (λ x y. close_to (coro_state w x) pc dst x y w) is es
 
-    pub close-refused : (g : Fault) → Stated.Refused g ≡ coro_state w v → Rep l w M m f → Does l (coro_close pc dst c src w) M m f (Step.Fault g)
-    close-refused g e rep = does l M m f (coro_close pc dst c src w) w (Step.Fault g) (sym (by-words (Stated.Refused g) e)) rep
+    pub close-refused : (g : Fault) → Err g ≡ coro_state w v → Rep l w M m f → Does l (coro_close pc dst c src w) M m f (Step.Fault g)
+    close-refused g e rep = does l M m f (coro_close pc dst c src w) w (Step.Fault g) (sym (by-words (Err g) e)) rep
 
-    pub closes : (s : CoroState) (t : Step) → Stated.In s ≡ coro_state w v → Does l (close_to (Stated.In s) pc dst v signal w) M m f t → Does l (coro_close pc dst c src w) M m f t
-    closes s t e d = subst (λ z. Does l z M m f t) (by-words (Stated.In s) e) d
+    pub closes : (s : CoroState) (t : Step) → Ok s ≡ coro_state w v → Does l (close_to (Ok s) pc dst v signal w) M m f t → Does l (coro_close pc dst c src w) M m f t
+    closes s t e d = subst (λ z. Does l z M m f t) (by-words (Ok s) e) d

@@ -1,7 +1,6 @@
 // coro.rs: exec, CoroClose. Its operands have been tested.
 ghost use Rattle.heap.specs.Heap.{TableFits};
 ghost use Rattle.model.specs.Exec.{close_entered, close_in, close_to, coro_close};
-ghost use Rattle.model.specs.declared.coro.Stated.TheVariants.{In};
 ghost use Rattle.heap.specs.declared.object.CoroState.TheVariants.{Returned};
 ghost use Rattle.coro_end.specs.Finish.{FinishFits};
 ghost use Rattle.coro_enter.specs.Entry.{EntryFits, AnswerFits};
@@ -15,24 +14,32 @@ use coro_enter::close::set_closing;
 use heap::fault::Fault;
 use heap::object::CoroState;
 use heap::value::Word;
+use machine_state::called::Did;
 use machine_state::coro::coro_state;
 use machine_state::frame::put;
-use machine_state::step::StepDid;
 use memory_world::machine::{Machine, Sizes};
-use model::coro::{Entered, Stated};
+use model::coro::Entered;
 use model::exec::Step;
 use model::machine::Driver;
 
 // What an entry to close leads to: the coroutine closes, and its signal is raised where it was suspended.
-pub(crate) fn close_entered(slots: &mut [u64], m: Machine, v: u64, a: Entered, signal: u64) -> Step
+pub(crate) fn close_entered(
+    slots: &mut [u64],
+    m: Machine,
+    v: u64,
+    a: Result<Entered, Fault>,
+    signal: u64,
+) -> Step
     requires { TableFits slots.old m.count }
     ensures { every (λ sizes. Met any sizes (λ w. close_entered v signal w a) (table (of_mut slots)) (only m) (only m) result) }
 {
-    if let Entered::Refused(f) = a {
-        return Step::Fault(f);
+    match a {
+        Ok(_) => {
+            set_closing(slots, m, Word(v), signal);
+            Step::Unwind(Fault::Throw(signal))
+        }
+        Err(f) => Step::Fault(f),
     }
-    set_closing(slots, m, Word(v), signal);
-    Step::Unwind(Fault::Throw(signal))
 }
 
 // A suspended coroutine is entered to close.
@@ -49,9 +56,9 @@ pub(crate) fn close_in(
     dst: u64,
     v: u64,
     signal: u64,
-) -> StepDid
+) -> Did<Step>
     requires { EntryFits sizes stack.old frames.old chain.old slots.old saved_stack.old saved_frames.old m pc }
-    ensures { Met if_sound sizes (close_in pc dst v signal) (six (of_mut stack) (of_mut frames) (of_mut chain) (of_mut slots) (of_mut saved_stack) (of_mut saved_frames)) (only m) (only result.machine) result.step }
+    ensures { Met if_sound sizes (close_in pc dst v signal) (six (of_mut stack) (of_mut frames) (of_mut chain) (of_mut slots) (of_mut saved_stack) (of_mut saved_frames)) (only m) (only result.machine) result.answer }
 {
     let did = store_enter(
         stack,
@@ -69,7 +76,10 @@ pub(crate) fn close_in(
     let n = did.machine;
     let a = did.answer;
     let step = close_entered(slots, n, v, a, signal);
-    StepDid { machine: n, step }
+    Did {
+        machine: n,
+        answer: step,
+    }
 }
 
 // A coroutine that was never entered returns nil.
@@ -114,9 +124,9 @@ pub(crate) fn close_to(
     dst: u64,
     v: u64,
     signal: u64,
-) -> StepDid
+) -> Did<Step>
     requires { AnswerFits sizes stack.old frames.old chain.old slots.old saved_stack.old saved_frames.old m pc dst }
-    ensures { Met if_sound sizes (close_to (In s) pc dst v signal) (six (of_mut stack) (of_mut frames) (of_mut chain) (of_mut slots) (of_mut saved_stack) (of_mut saved_frames)) (only m) (only result.machine) result.step }
+    ensures { Met if_sound sizes (close_to (Ok s) pc dst v signal) (six (of_mut stack) (of_mut frames) (of_mut chain) (of_mut slots) (of_mut saved_stack) (of_mut saved_frames)) (only m) (only result.machine) result.answer }
 {
     if s.is_suspended() {
         return close_in(
@@ -135,16 +145,16 @@ pub(crate) fn close_to(
         );
     }
     if s.is_running() {
-        return StepDid {
+        return Did {
             machine: m,
-            step: Step::Fault(Fault::InvalidCoroState),
+            answer: Step::Fault(Fault::InvalidCoroState),
         };
     }
     end_created(slots, saved_stack, saved_frames, m, sizes, s, v);
     put(stack, frames, m, dst, Word::NIL);
-    StepDid {
+    Did {
         machine: m,
-        step: Step::Next,
+        answer: Step::Next,
     }
 }
 
@@ -162,18 +172,18 @@ pub fn coro_close(
     dst: u64,
     c: u64,
     src: u64,
-) -> StepDid
+) -> Did<Step>
     requires { CloseFits sizes stack.old frames.old chain.old slots.old saved_stack.old saved_frames.old m pc dst c src }
-    ensures { Met if_sound sizes (coro_close pc dst c src) (six (of_mut stack) (of_mut frames) (of_mut chain) (of_mut slots) (of_mut saved_stack) (of_mut saved_frames)) (only m) (only result.machine) result.step }
+    ensures { Met if_sound sizes (coro_close pc dst c src) (six (of_mut stack) (of_mut frames) (of_mut chain) (of_mut slots) (of_mut saved_stack) (of_mut saved_frames)) (only m) (only result.machine) result.answer }
 {
     let v = memory_tables::stack::reg(stack, frames, m.height, m.depth, c as usize);
     let signal = memory_tables::stack::reg(stack, frames, m.height, m.depth, src as usize);
     match coro_state(slots, m, Word(v)) {
-        Stated::Refused(f) => StepDid {
+        Err(f) => Did {
             machine: m,
-            step: Step::Fault(f),
+            answer: Step::Fault(f),
         },
-        Stated::In(s) => close_to(
+        Ok(s) => close_to(
             stack,
             frames,
             chain,

@@ -5,8 +5,9 @@ ghost use Rattle.memory_world.specs.Lendings.{six};
 ghost use Rattle.memory_world.specs.Contract.{Met, if_sound, only, of_mut};
 
 use coro_enter::arrival::enter_send;
-use machine_state::step::StepDid;
+use machine_state::called::Did;
 use memory_world::machine::{Machine, Sizes};
+use model::exec::Step;
 use model::machine::Driver;
 
 // coro.rs: exec, Resume.
@@ -23,9 +24,9 @@ pub fn resume(
     dst: u64,
     c: u64,
     src: u64,
-) -> StepDid
+) -> Did<Step>
     requires { ResumeFits sizes stack.old frames.old chain.old slots.old saved_stack.old saved_frames.old m pc c src }
-    ensures { Met if_sound sizes (resume pc dst c src) (six (of_mut stack) (of_mut frames) (of_mut chain) (of_mut slots) (of_mut saved_stack) (of_mut saved_frames)) (only m) (only result.machine) result.step }
+    ensures { Met if_sound sizes (resume pc dst c src) (six (of_mut stack) (of_mut frames) (of_mut chain) (of_mut slots) (of_mut saved_stack) (of_mut saved_frames)) (only m) (only result.machine) result.answer }
 {
     let v = memory_tables::stack::reg(stack, frames, m.height, m.depth, c as usize);
     let sent = memory_tables::stack::reg(stack, frames, m.height, m.depth, src as usize);

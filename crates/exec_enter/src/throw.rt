@@ -1,7 +1,6 @@
 // coro.rs: exec, ResumeThrow. Its operands have been tested.
 ghost use Rattle.std.specs.Prelude.{◌≡◌};
 ghost use Rattle.model.specs.Exec.{throw_to, resume_throw};
-ghost use Rattle.model.specs.declared.coro.Stated.TheVariants.{In};
 ghost use Rattle.coro_enter.specs.Entry.{EntryFits};
 ghost use Rattle.exec_enter.specs.Resume.{ResumeFits};
 ghost use Rattle.exec_enter.specs.Throw.{raised};
@@ -13,21 +12,20 @@ use coro_enter::arrival::store_enter;
 use heap::fault::Fault;
 use heap::object::CoroState;
 use heap::value::Word;
+use machine_state::called::Did;
 use machine_state::coro::coro_state;
-use machine_state::step::StepDid;
 use memory_world::machine::{Machine, Sizes};
-use model::coro::{Entered, Stated};
+use model::coro::Entered;
 use model::exec::Step;
 use model::machine::Driver;
 
 // A word raised where the entered coroutine was suspended.
-pub fn raised(a: Entered, v: u64) -> Step
+pub fn raised(a: Result<Entered, Fault>, v: u64) -> Step
     ensures { result ≡ raised v a }
 {
     match a {
-        Entered::Fresh => Step::Unwind(Fault::Throw(v)),
-        Entered::Suspended(_) => Step::Unwind(Fault::Throw(v)),
-        Entered::Refused(f) => Step::Fault(f),
+        Ok(_) => Step::Unwind(Fault::Throw(v)),
+        Err(f) => Step::Fault(f),
     }
 }
 
@@ -46,9 +44,9 @@ pub(crate) fn throw_to(
     dst: u64,
     v: u64,
     err: u64,
-) -> StepDid
+) -> Did<Step>
     requires { EntryFits sizes stack.old frames.old chain.old slots.old saved_stack.old saved_frames.old m pc }
-    ensures { Met if_sound sizes (throw_to (In s) pc dst v err) (six (of_mut stack) (of_mut frames) (of_mut chain) (of_mut slots) (of_mut saved_stack) (of_mut saved_frames)) (only m) (only result.machine) result.step }
+    ensures { Met if_sound sizes (throw_to (Ok s) pc dst v err) (six (of_mut stack) (of_mut frames) (of_mut chain) (of_mut slots) (of_mut saved_stack) (of_mut saved_frames)) (only m) (only result.machine) result.answer }
 {
     if s.is_created() {
         finish_coroutine(
@@ -61,9 +59,9 @@ pub(crate) fn throw_to(
             CoroState::Failed,
             err,
         );
-        return StepDid {
+        return Did {
             machine: m,
-            step: Step::Fault(Fault::Throw(err)),
+            answer: Step::Fault(Fault::Throw(err)),
         };
     }
     let did = store_enter(
@@ -82,7 +80,10 @@ pub(crate) fn throw_to(
     let n = did.machine;
     let a = did.answer;
     let step = raised(a, err);
-    StepDid { machine: n, step }
+    Did {
+        machine: n,
+        answer: step,
+    }
 }
 
 // coro.rs: exec, ResumeThrow.
@@ -99,18 +100,18 @@ pub fn resume_throw(
     dst: u64,
     c: u64,
     src: u64,
-) -> StepDid
+) -> Did<Step>
     requires { ResumeFits sizes stack.old frames.old chain.old slots.old saved_stack.old saved_frames.old m pc c src }
-    ensures { Met if_sound sizes (resume_throw pc dst c src) (six (of_mut stack) (of_mut frames) (of_mut chain) (of_mut slots) (of_mut saved_stack) (of_mut saved_frames)) (only m) (only result.machine) result.step }
+    ensures { Met if_sound sizes (resume_throw pc dst c src) (six (of_mut stack) (of_mut frames) (of_mut chain) (of_mut slots) (of_mut saved_stack) (of_mut saved_frames)) (only m) (only result.machine) result.answer }
 {
     let v = memory_tables::stack::reg(stack, frames, m.height, m.depth, c as usize);
     let err = memory_tables::stack::reg(stack, frames, m.height, m.depth, src as usize);
     match coro_state(slots, m, Word(v)) {
-        Stated::Refused(f) => StepDid {
+        Err(f) => Did {
             machine: m,
-            step: Step::Fault(f),
+            answer: Step::Fault(f),
         },
-        Stated::In(s) => throw_to(
+        Ok(s) => throw_to(
             stack,
             frames,
             chain,

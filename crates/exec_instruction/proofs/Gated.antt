@@ -16,7 +16,7 @@ use Rattle.model.specs.Cleanup.{charge}
 use Rattle.model.specs.Gate.{refused, answer_of, charged, instruction}
 use Rattle.model.specs.Calls.{Row, Instruction, table}
 use Rattle.model.specs.Sound.{sound}
-use Rattle.model.specs.declared.call.OptPc.{OptPc}
+use Rattle.std.specs.Prelude.{Some}
 use Rattle.model.specs.declared.call.Op.{Op}
 use Rattle.model.specs.declared.call.Answer.{Answer}
 use Rattle.model.specs.declared.exec.Step.{Step}
@@ -96,7 +96,7 @@ stepped-as n s x e k = subst (λ z. Answer.Stepped z n ≡ answer_of n z) (sym e
 
 module _ (l : Sizes) (M : Lent) (m : Machine) (f : Fuel) (w : World) (pc : ℕ) (t : Bool) (arm : World → After Step) where
   abbrev paid : After Charge
-  paid = charge (OptPc.Some pc) w
+  paid = charge (Some pc) w
 
   abbrev gated : After Answer
   gated = instruction pc t arm w
@@ -119,12 +119,12 @@ module _ (l : Sizes) (M : Lent) (m : Machine) (f : Fuel) (w : World) (pc : ℕ) 
   -- past the gate, with the pc that was charged
   module _ (e : is_nil w.frames ≡ false) (holds : t ≡ true) (n : ℕ) (is : n ≡ pc) where
     abbrev given : After Charge
-    given = charge (OptPc.Some n) w
+    given = charge (Some n) w
 
     at-charge : gated ≡ and_then given (charged arm)
     at-charge =
         past-frame e ∙ ap (λ b. pick (not b) (refused w Fault.BadOperand) (and_then paid (charged arm))) holds ∙ pick-false _ _
-        ∙ ap (λ p. and_then (charge (OptPc.Some p) w) (charged arm)) (sym is)
+        ∙ ap (λ p. and_then (charge (Some p) w) (charged arm)) (sym is)
 
     pub spent : Does l given M m f Charge.Spent → Does l gated M m f (Answer.Stepped (Step.Fault Fault.OutOfFuel) 0)
     spent d = does l M m f gated given.world _ (at-charge ∙ ap (charged arm given.world) (sym d.answer)) d.world
@@ -148,13 +148,13 @@ module _ {l : Sizes} {s f c o r q₀ z u : List ℕ} {m : Machine} {fuel : Fuel}
   pub arm-fits : {s' f' c' o' r' q' z' : List ℕ} {m' : Machine} {fuel' : Fuel} {op : Op} {pc functions base n : ℕ} → 1 ≤ m.depth → functions ≡ get_or u 13 0 → base ≡ base_in f (m.depth - 1)
       → Passes (table op) functions base m.height true → PcIs op pc
       → SameLengths (cleaning s f c o r q₀ z plain charge-ok.beside) (cleaning s' f' c' o' r' q' z' plain charge-ok.beside)
-      → Does l (charge (OptPc.Some pc) ok.world) (cleaning s' f' c' o' r' q' z' plain charge-ok.beside) m' fuel' (Charge.Done n)
+      → Does l (charge (Some pc) ok.world) (cleaning s' f' c' o' r' q' z' plain charge-ok.beside) m' fuel' (Charge.Done n)
       → Past l (six_setup s' f' c' o' r' q' u plain) m' fuel' op
   arm-fits {s'} {f'} {c'} {o'} {r'} {q'} {z'} {m'} {fuel'} {op} {pc} {functions} {base} {n} some e b pass is k d =
       let w = ok.world in
       let narrow = narrow-pc pc is.narrow in
-      let calm = charged-calm (OptPc.Some pc) w narrow ok.sound n (sym d.answer) in
-      let after-charge = (charge (OptPc.Some pc) w).world in
+      let calm = charged-calm (Some pc) w narrow ok.sound n (sym d.answer) in
+      let after-charge = (charge (Some pc) w).world in
       let M = cleaning s f c o r q₀ z plain charge-ok.beside in
       let M' = cleaning s' f' c' o' r' q' z' plain charge-ok.beside in
       record {
@@ -162,7 +162,7 @@ module _ {l : Sizes} {s f c o r q₀ z u : List ℕ} {m : Machine} {fuel : Fuel}
           world = after-charge;
           beside = record { words = on_finalize z' ok.beside.words; fuel = ok.beside.fuel };
           rep = d.world;
-          sound = charged-sound (OptPc.Some pc) w narrow ok.sound;
+          sound = charged-sound (Some pc) w narrow ok.sound;
           room = room-same w.setup after-charge.setup M M' calm.setup k ok.room;
         };
         some = calm.some ∙ some-frames w.frames f m.depth ok.rep.frames some;

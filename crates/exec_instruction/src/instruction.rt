@@ -48,7 +48,7 @@ pub fn instruction(
     sizes: Sizes,
     fuel: Fuel,
     op: Op,
-) -> Called
+) -> Called<Answer>
     requires { Ok sizes (gating stack.old frames.old chain.old slots.old saved_stack.old saved_frames.old finalize.old setup.now plain) (with m fuel) }
     ensures { OfInstruction op (λ pc operands arm. Met if_sound sizes (λ w. instruction pc (operands w) arm w) (gating (of_mut stack) (of_mut frames) (of_mut chain) (of_mut slots) (of_mut saved_stack) (of_mut saved_frames) (of_mut finalize) (of_ref setup)) (with m fuel) (with result.machine result.fuel) result.answer) }
 {
@@ -113,7 +113,7 @@ pub fn instruction(
             );
             let machine = did.machine;
             let g = did.fuel;
-            let s = did.step;
+            let s = did.answer;
             let answer = answer_of(taken, s);
             Called {
                 machine,

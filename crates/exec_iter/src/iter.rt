@@ -1,7 +1,6 @@
 // coro.rs: iter_next. Its operands have been tested.
 ghost use Rattle.heap.specs.Heap.{TableFits};
 ghost use Rattle.model.specs.Exec.{iter_on, iter_next};
-ghost use Rattle.model.specs.declared.coro.Stated.TheVariants.{In};
 ghost use Rattle.coro_enter.specs.Entry.{AnswerFits};
 ghost use Rattle.exec_iter.specs.Iter.{exhausted, stopped, StopFits, NextFits};
 ghost use Rattle.memory_world.specs.Lendings.{six, table, top_table};
@@ -12,11 +11,10 @@ use coro_enter::arrival::enter_send;
 use heap::fault::Fault;
 use heap::object::CoroState;
 use heap::value::Word;
+use machine_state::called::Did;
 use machine_state::coro::coro_state;
 use machine_state::frame::put;
-use machine_state::step::StepDid;
 use memory_world::machine::{Machine, Sizes};
-use model::coro::Stated;
 use model::exec::Step;
 use model::machine::Driver;
 
@@ -63,21 +61,21 @@ pub(crate) fn iter_on(
     iter: u64,
     val: u64,
     src: u64,
-) -> StepDid
+) -> Did<Step>
     requires { AnswerFits sizes stack.old frames.old chain.old slots.old saved_stack.old saved_frames.old m pc has }
-    ensures { Met if_sound sizes (iter_on (In s) pc has iter val src) (six (of_mut stack) (of_mut frames) (of_mut chain) (of_mut slots) (of_mut saved_stack) (of_mut saved_frames)) (only m) (only result.machine) result.step }
+    ensures { Met if_sound sizes (iter_on (Ok s) pc has iter val src) (six (of_mut stack) (of_mut frames) (of_mut chain) (of_mut slots) (of_mut saved_stack) (of_mut saved_frames)) (only m) (only result.machine) result.answer }
 {
     if exhausted(slots, m, iter, s) {
         stop(stack, frames, slots, m, has, iter);
-        return StepDid {
+        return Did {
             machine: m,
-            step: Step::Next,
+            answer: Step::Next,
         };
     }
     if s.is_awaiting() {
-        return StepDid {
+        return Did {
             machine: m,
-            step: Step::Fault(Fault::TypeError),
+            answer: Step::Fault(Fault::TypeError),
         };
     }
     enter_send(
@@ -111,18 +109,18 @@ pub fn iter_next(
     iter: u64,
     val: u64,
     src: u64,
-) -> StepDid
+) -> Did<Step>
     requires { NextFits sizes stack.old frames.old chain.old slots.old saved_stack.old saved_frames.old m pc has iter src }
-    ensures { Met if_sound sizes (iter_next pc has iter val src) (six (of_mut stack) (of_mut frames) (of_mut chain) (of_mut slots) (of_mut saved_stack) (of_mut saved_frames)) (only m) (only result.machine) result.step }
+    ensures { Met if_sound sizes (iter_next pc has iter val src) (six (of_mut stack) (of_mut frames) (of_mut chain) (of_mut slots) (of_mut saved_stack) (of_mut saved_frames)) (only m) (only result.machine) result.answer }
 {
     let it = memory_tables::stack::reg(stack, frames, m.height, m.depth, iter as usize);
     let v = memory_tables::stack::reg(stack, frames, m.height, m.depth, src as usize);
     match coro_state(slots, m, Word(v)) {
-        Stated::Refused(f) => StepDid {
+        Err(f) => Did {
             machine: m,
-            step: Step::Fault(f),
+            answer: Step::Fault(f),
         },
-        Stated::In(s) => iter_on(
+        Ok(s) => iter_on(
             stack,
             frames,
             chain,

@@ -15,8 +15,7 @@ use Rattle.heap.specs.Table as Table
 use Rattle.heap.specs.Heap.{slots_of}
 use Rattle.heap.specs.Kind.{as_callee, callee_by, callee_of}
 use Rattle.heap.specs.declared.fault.Fault.{Fault}
-use Rattle.heap.specs.declared.heap.Place.{Place}
-use Rattle.heap.specs.declared.kind.Callable.{Callable}
+use Rattle.std.specs.Prelude.{Option, Result, Some, None, Ok, Err}
 use Rattle.heap.specs.declared.object.Object as H
 use Rattle.model.specs.Program.{Setup, func, is_function}
 use Rattle.model.specs.Object.{Object, is_filled}
@@ -25,7 +24,6 @@ use Rattle.model.specs.Frames.{reg}
 use Rattle.model.specs.Heap.{object_at, object, not_a, refuse}
 use Rattle.model.specs.Coro.{coro_create}
 use Rattle.model.specs.Exec.{window, indirect_to, indirect, coro_new_indirect, put_made}
-use Rattle.model.specs.declared.coro.WordOr.{WordOr}
 use Rattle.model.specs.declared.exec.Step.{Step}
 use Rattle.model.specs.declared.machine.Fuel.{Fuel}
 use Rattle.memory_tables.specs.Layout.{function_in}
@@ -59,9 +57,9 @@ callee-in : (xs : List (Slot Object)) (v : ℕ) →
     let p = get Object.Empty is_filled xs v in callee_of (to_slots xs) v ≡ callee_in (object_at xs p) (Table.not_a (class_of v) p)
 callee-in xs v = ap (callee_by (to_slots xs) v) (get-same xs v) ∙ go (get Object.Empty is_filled xs v) refl
   where
-    go : (p : Place) → get Object.Empty is_filled xs v ≡ p → callee_by (to_slots xs) v p ≡ callee_in (object_at xs p) (Table.not_a (class_of v) p)
-    go Place.Nothing q = refl
-    go (Place.At i) q =
+    go : (p : Option ℕ) → get Object.Empty is_filled xs v ≡ p → callee_by (to_slots xs) v p ≡ callee_in (object_at xs p) (Table.not_a (class_of v) p)
+    go None q = refl
+    go (Some i) q =
         let o = (slot_at Object.Empty is_filled xs i).object in
         ap (λ (x : Slot H.Object). as_callee x.object) (at_map xs i) ∙ as-callee o ∙ ap (callee_in o) (sym (found-fault xs v (class_of v) i q))
 
@@ -71,30 +69,30 @@ module _ (l : Sizes) (w : World) (M : Lent) (m : Machine) (fuel : Fuel) (rep : R
   abbrev s : Setup
   s = w.setup
 
-  callee-is : (c : Callable) → c ≡ callee_of (slots_of m.count M.slots) v → c ≡ callee_in (object w v) (not_a w v)
+  callee-is : (c : Result ℕ Fault) → c ≡ callee_of (slots_of m.count M.slots) v → c ≡ callee_in (object w v) (not_a w v)
   callee-is c e = e ∙ ap (λ xs. callee_of xs v) (slots-are (to_slots w.slots) M.slots m.count rep.slots) ∙ callee-in w.slots v
 
-  pub no-callee : (g : Fault) → Callable.Not g ≡ callee_of (slots_of m.count M.slots) v → Callable.Not g ≡ called v argc w
-  no-callee g e = ap (taking s argc) (callee-is (Callable.Not g) e)
+  pub no-callee : (g : Fault) → Err g ≡ callee_of (slots_of m.count M.slots) v → Err g ≡ called v argc w
+  no-callee g e = ap (taking s argc) (callee-is (Err g) e)
 
-  module _ (f : ℕ) (e : Callable.Func f ≡ callee_of (slots_of m.count M.slots) v) where
-    opened : taking s argc (Callable.Func f) ≡ called v argc w
-    opened = ap (taking s argc) (callee-is (Callable.Func f) e)
+  module _ (f : ℕ) (e : Ok f ≡ callee_of (slots_of m.count M.slots) v) where
+    opened : taking s argc (Ok f) ≡ called v argc w
+    opened = ap (taking s argc) (callee-is (Ok f) e)
 
-    pub no-function : ltb f (functions_of M.setup) ≡ false → Callable.Not Fault.TypeError ≡ called v argc w
+    pub no-function : ltb f (functions_of M.setup) ≡ false → Err Fault.TypeError ≡ called v argc w
     no-function t = sym (chosen _ _ (not (is_function s f)) (ap not (sym (is-function-in s M.setup rep.setup f) ∙ t))) ∙ opened
 
     module _ (t : ltb f (functions_of M.setup) ≡ true) where
       count-is : (function_in M.setup f).params ≡ (func s f).params
       count-is = params_in s M.setup rep.setup f (ltb-true f (functions_of M.setup) t)
 
-      counted : pick (not (eqb (func s f).params argc)) (Callable.Not Fault.TypeError) (Callable.Func f) ≡ called v argc w
+      counted : pick (not (eqb (func s f).params argc)) (Err Fault.TypeError) (Ok f) ≡ called v argc w
       counted = sym (passed _ _ (not (is_function s f)) (ap not (sym (is-function-in s M.setup rep.setup f) ∙ t))) ∙ opened
 
-      pub other-count : ((function_in M.setup f).params ≡ argc → ⊥) → Callable.Not Fault.TypeError ≡ called v argc w
+      pub other-count : ((function_in M.setup f).params ≡ argc → ⊥) → Err Fault.TypeError ≡ called v argc w
       other-count n = sym (chosen _ _ (not (eqb (func s f).params argc)) (ap not (ne_eqb (func s f).params argc (λ z. n (count-is ∙ z))))) ∙ counted
 
-      pub is-callee : (function_in M.setup f).params ≡ argc → Callable.Func f ≡ called v argc w
+      pub is-callee : (function_in M.setup f).params ≡ argc → Ok f ≡ called v argc w
       is-callee n = sym (passed _ _ (not (eqb (func s f).params argc)) (ap not (eq-eqb (func s f).params argc (sym count-is ∙ n)))) ∙ counted
 
 -- the words that this asks for
@@ -104,24 +102,24 @@ called-fits l w M m fuel rep room =
     record { table = rep.slots.within; functions = omega arith }
 
 -- a function that is called is one of the set-up's
-taken-function : (s : Setup) (argc f : ℕ) (c : Callable) → Callable.Func f ≡ taking s argc c → is_function s f ≡ true
+taken-function : (s : Setup) (argc f : ℕ) (c : Result ℕ Fault) → Ok f ≡ taking s argc c → is_function s f ≡ true
 unfolding pick
-taken-function s argc f (Callable.Not g) e = never cc
-taken-function s argc f (Callable.Func x) e = go (is_function s x) refl (eqb (func s x).params argc) e
+taken-function s argc f (Err g) e = never cc
+taken-function s argc f (Ok x) e = go (is_function s x) refl (eqb (func s x).params argc) e
   where
-    go : (a : Bool) → is_function s x ≡ a → (b : Bool) → Callable.Func f ≡ pick (not a) (Callable.Not Fault.TypeError) (pick (not b) (Callable.Not Fault.TypeError) (Callable.Func x)) → is_function s f ≡ true
+    go : (a : Bool) → is_function s x ≡ a → (b : Bool) → Ok f ≡ pick (not a) (Err Fault.TypeError) (pick (not b) (Err Fault.TypeError) (Ok x)) → is_function s f ≡ true
     go true h true e = let z : f ≡ x = cc in ap (is_function s) z ∙ h
     go true h false e = never cc
     go false h b e = never cc
 
-pub called-function : (l : Sizes) (w : World) (M : Lent) (m : Machine) (fuel : Fuel) → Rep l w M m fuel → (v argc f : ℕ) → Callable.Func f ≡ called v argc w → f < get_or M.setup 13 0
+pub called-function : (l : Sizes) (w : World) (M : Lent) (m : Machine) (fuel : Fuel) → Rep l w M m fuel → (v argc f : ℕ) → Ok f ≡ called v argc w → f < get_or M.setup 13 0
 called-function l w M m fuel rep v argc f e = named_in l M m fuel w rep f (taken-function w.setup argc f (callee_in (object w v) (not_a w v)) e)
 
 -- ---- indirect, by the function that is called
 
-abbrev create_as : Callable → ℕ → ℕ → ℕ → World → After WordOr
-create_as (Callable.Not g) v dst argc w = refuse w g
-create_as (Callable.Func f) v dst argc w = coro_create f v (window dst argc w) w
+abbrev create_as : Result ℕ Fault → ℕ → ℕ → ℕ → World → After (Result ℕ Fault)
+create_as (Err g) v dst argc w = refuse w g
+create_as (Ok f) v dst argc w = coro_create f v (window dst argc w) w
 
 to-create : (v dst argc : ℕ) (w : World) (o : Object) → indirect_to o v dst argc w ≡ create_as (taking w.setup argc (callee_in o (not_a w v))) v dst argc w
 unfolding pick
@@ -129,7 +127,7 @@ to-create v dst argc w Object.Empty = refl
 to-create v dst argc w (Object.Func f) = go (is_function w.setup f) (eqb (func w.setup f).params argc)
   where
     go : (a b : Bool) → pick (not a) (refuse w Fault.TypeError) (pick (not b) (refuse w Fault.TypeError) (coro_create f v (window dst argc w) w))
-        ≡ create_as (pick (not a) (Callable.Not Fault.TypeError) (pick (not b) (Callable.Not Fault.TypeError) (Callable.Func f))) v dst argc w
+        ≡ create_as (pick (not a) (Err Fault.TypeError) (pick (not b) (Err Fault.TypeError) (Ok f))) v dst argc w
     go true true = refl
     go true false = refl
     go false b = refl
@@ -139,18 +137,18 @@ to-create v dst argc w (Object.Error e f p x) = refl
 to-create v dst argc w (Object.Coro k r) = refl
 
 module _ (w : World) (dst callee argc : ℕ) where
-  indirect-is : (v : ℕ) → v ≡ reg w callee → (c : Callable) → c ≡ called v argc w → indirect dst callee argc w ≡ create_as c v dst argc w
+  indirect-is : (v : ℕ) → v ≡ reg w callee → (c : Result ℕ Fault) → c ≡ called v argc w → indirect dst callee argc w ≡ create_as c v dst argc w
   unfolding indirect
   indirect-is v ev c ec = ap (λ x. indirect_to (object w x) x dst argc w) (sym ev) ∙ to-create v dst argc w (object w v) ∙ ap (λ t. create_as t v dst argc w) (sym ec)
 
   module _ (l : Sizes) (M : Lent) (m : Machine) (fuel : Fuel) (v : ℕ) (ev : v ≡ reg w callee) where
-    pub indirect-refused : (g : Fault) → Callable.Not g ≡ called v argc w → Rep l w M m fuel → Does l (indirect dst callee argc w) M m fuel (WordOr.Refused g)
-    indirect-refused g e rep = does l M m fuel (indirect dst callee argc w) w (WordOr.Refused g) (indirect-is v ev (Callable.Not g) e) rep
+    pub indirect-refused : (g : Fault) → Err g ≡ called v argc w → Rep l w M m fuel → Does l (indirect dst callee argc w) M m fuel (Err g)
+    indirect-refused g e rep = does l M m fuel (indirect dst callee argc w) w (Err g) (indirect-is v ev (Err g) e) rep
 
-    pub indirect-made : (f : ℕ) (a : WordOr) → Callable.Func f ≡ called v argc w → Does l (coro_create f v (window dst argc w) w) M m fuel a → Does l (indirect dst callee argc w) M m fuel a
-    indirect-made f a e d = subst (λ o. Does l o M m fuel a) (sym (indirect-is v ev (Callable.Func f) e)) d
+    pub indirect-made : (f : ℕ) (a : Result ℕ Fault) → Ok f ≡ called v argc w → Does l (coro_create f v (window dst argc w) w) M m fuel a → Does l (indirect dst callee argc w) M m fuel a
+    indirect-made f a e d = subst (λ o. Does l o M m fuel a) (sym (indirect-is v ev (Ok f) e)) d
 
-  pub indirect-met : (l : Sizes) (M : Lent) (m : Machine) (fuel : Fuel) (a : WordOr) (s : Step) → a ≡ (indirect dst callee argc w).answer
+  pub indirect-met : (l : Sizes) (M : Lent) (m : Machine) (fuel : Fuel) (a : Result ℕ Fault) (s : Step) → a ≡ (indirect dst callee argc w).answer
       → Does l (put_made dst (indirect dst callee argc w).world a) M m fuel s → Does l (coro_new_indirect dst callee argc w) M m fuel s
   unfolding coro_new_indirect
   indirect-met l M m fuel a s e d = made-put l M m fuel (indirect dst callee argc w) dst a s e d

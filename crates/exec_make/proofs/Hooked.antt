@@ -14,7 +14,7 @@ use Rattle.lists.specs.Pick.{pick}
 use Rattle.lists.proofs.Tests.{never}
 use Rattle.heap.specs.Word.{nil}
 use Rattle.heap.specs.declared.fault.Fault.{Fault}
-use Rattle.heap.specs.declared.value.Opt.{Opt}
+use Rattle.std.specs.Prelude.{Option, Result, Some, None, Ok, Err}
 use Rattle.model.specs.Program.{func, is_function, hook_ok}
 use Rattle.model.specs.World.{World, After, after, and_then, with_stack, with_frames}
 use Rattle.model.specs.Frames.{frame, top_base, put_at, put_reg, store_pc}
@@ -23,8 +23,6 @@ use Rattle.model.specs.Cleanup.{charge}
 use Rattle.model.specs.Machine.{push_frame}
 use Rattle.model.specs.Exec.{indirect, hooked, call_hook, spawn_made, spawn_with, spawn}
 use Rattle.model.specs.Sound.{sound}
-use Rattle.model.specs.declared.call.OptPc.{OptPc}
-use Rattle.model.specs.declared.coro.WordOr.{WordOr}
 use Rattle.model.specs.declared.exec.Step.{Step}
 use Rattle.model.specs.declared.machine.Charge.{Charge}
 use Rattle.model.specs.contracts.machine.Charge as Charge'
@@ -57,10 +55,10 @@ pub record Hook (M : Lent) (hook : ℕ) : Type 0 where
   pub function : hook < get_or M.setup 13 0
   pub register : 1 ≤ (function_in M.setup hook).regs
 
-pub hook-there : (l : Sizes) (w : World) (M : Lent) (m : Machine) (fuel : Fuel) → Rep l w M m fuel → sound w ≡ true → (hook : ℕ) → Opt.Some hook ≡ hook_of M.setup → Hook M hook
+pub hook-there : (l : Sizes) (w : World) (M : Lent) (m : Machine) (fuel : Fuel) → Rep l w M m fuel → sound w ≡ true → (hook : ℕ) → Some hook ≡ hook_of M.setup → Hook M hook
 hook-there l w M m fuel rep snd hook e =
     let s = w.setup in
-    let ok : hook_ok s (Opt.Some hook) ≡ true = ap (hook_ok s) (e ∙ hook-in s M.setup rep.setup) ∙ (facts s (known w snd).setup).hook in
+    let ok : hook_ok s (Some hook) ≡ true = ap (hook_ok s) (e ∙ hook-in s M.setup rep.setup) ∙ (facts s (known w snd).setup).hook in
     let named = named_in l M m fuel w rep hook (and_left (is_function s hook) (ltb 0 (func s hook).regs) ok) in
     let wide = ltb-true 0 (func s hook).regs (and_right (is_function s hook) (ltb 0 (func s hook).regs) ok) in
     let same = regs-in s M.setup rep.setup hook named in
@@ -68,7 +66,7 @@ hook-there l w M m fuel rep snd hook e =
 
 -- what its call asks, after the creation
 pub hook-asks : {l : Sizes} {stack frames slots saved_stack saved_frames setup slots' saved_stack' saved_frames' : List ℕ} {m n : Machine} {pc dst callee argc : ℕ}
-    → (p : SpawnFits l stack frames slots saved_stack saved_frames setup m pc dst callee argc) (hook : ℕ) → Opt.Some hook ≡ hook_of setup
+    → (p : SpawnFits l stack frames slots saved_stack saved_frames setup m pc dst callee argc) (hook : ℕ) → Some hook ≡ hook_of setup
     → Rep l (indirect dst callee argc p.indirect.ok.world).world (top_making stack frames slots' saved_stack' saved_frames' setup plain p.indirect.ok.beside) n p.indirect.ok.beside.fuel
     → length slots' ≡ length slots → length saved_stack' ≡ length saved_stack → length saved_frames' ≡ length saved_frames → HookFits l stack frames setup n pc hook
 hook-asks {l} {stack} {frames} {slots} {saved_stack} {saved_frames} {setup} {slots'} {saved_stack'} {saved_frames'} {m} {n} {pc} {dst} {callee} {argc} p hook e rep k₁ k₂ k₃ =
@@ -88,7 +86,7 @@ hook-asks {l} {stack} {frames} {slots} {saved_stack} {saved_frames} {setup} {slo
 -- ---- the hook's frame, by the frame that a call pushes
 
 module _ (hook pc dst c : ℕ) (w : World) where
-  abbrev pushing : After WordOr
+  abbrev pushing : After (Result ℕ Fault)
   pushing = push_at pc hook nil (Cont.Value dst) w
 
   -- refused or not, the hook's frame goes by the answer of the push
@@ -96,9 +94,9 @@ module _ (hook pc dst c : ℕ) (w : World) where
   unfolding push_at
   hook-by = go (push_frame hook nil (Cont.Value dst) (store_pc pc w)).world (push_frame hook nil (Cont.Value dst) (store_pc pc w)).answer
     where
-      go : (u : World) (a : WordOr) → hooked w c u a ≡ and_then (pushed_or w u a) (hooked w c)
-      go u (WordOr.Word base) = refl
-      go u (WordOr.Refused f) = refl
+      go : (u : World) (a : Result ℕ Fault) → hooked w c u a ≡ and_then (pushed_or w u a) (hooked w c)
+      go u (Ok base) = refl
+      go u (Err f) = refl
 
   -- ---- what a push leaves
 
@@ -109,15 +107,15 @@ module _ (hook pc dst c : ℕ) (w : World) where
   new = with_frames (frame hook (length w.stack) nil (Cont.Value dst) ∷ (store_pc pc w).frames) (with_stack (w.stack ++ replicate wide 0) (store_pc pc w))
 
   -- by the test of its room
-  abbrev out : Bool → After WordOr
-  out t = and_then (pick t (refuse (store_pc pc w) Fault.StackOverflow) (after new (WordOr.Word (length w.stack)))) (pushed_or w)
+  abbrev out : Bool → After (Result ℕ Fault)
+  out t = and_then (pick t (refuse (store_pc pc w) Fault.StackOverflow) (after new (Ok (length w.stack)))) (pushed_or w)
 
-  record Pushed (o : After WordOr) (base : ℕ) : Type 0 where
+  record Pushed (o : After (Result ℕ Fault)) (base : ℕ) : Type 0 where
     rest : List Frame
     frames : o.world.frames ≡ frame hook base nil (Cont.Value dst) ∷ rest
     stack : length o.world.stack ≡ base + wide
 
-  by-test : (t : Bool) (base : ℕ) → WordOr.Word base ≡ (out t).answer → Pushed (out t) base
+  by-test : (t : Bool) (base : ℕ) → Ok base ≡ (out t).answer → Pushed (out t) base
   unfolding pick
   by-test true base e = never cc
   by-test false base e =
@@ -126,26 +124,26 @@ module _ (hook pc dst c : ℕ) (w : World) where
       let r : length (replicate {A = ℕ} wide 0) ≡ wide = length-replicate wide 0 in
       record { rest = (store_pc pc w).frames; frames = ap (λ k. frame hook k nil (Cont.Value dst) ∷ (store_pc pc w).frames) (sym z); stack = omega arith }
 
-  pushed : (base : ℕ) → WordOr.Word base ≡ pushing.answer → Pushed pushing base
+  pushed : (base : ℕ) → Ok base ≡ pushing.answer → Pushed pushing base
   unfolding push_at push_frame
   pushed base e =
       by-test (leb w.setup.limits.depth (length (store_pc pc w).frames) || ltb w.setup.limits.stack (length w.stack + wide)) base e
 
   -- refused, nothing was stored
-  left : (g : Fault) → WordOr.Refused g ≡ pushing.answer → pushing.world ≡ w
+  left : (g : Fault) → Err g ≡ pushing.answer → pushing.world ≡ w
   unfolding push_at
   left g e = go (push_frame hook nil (Cont.Value dst) (store_pc pc w)).world (push_frame hook nil (Cont.Value dst) (store_pc pc w)).answer e
     where
-      go : (u : World) (a : WordOr) → WordOr.Refused g ≡ (pushed_or w u a).answer → (pushed_or w u a).world ≡ w
-      go u (WordOr.Word base) e = never cc
-      go u (WordOr.Refused f) e = refl
+      go : (u : World) (a : Result ℕ Fault) → Err g ≡ (pushed_or w u a).answer → (pushed_or w u a).world ≡ w
+      go u (Ok base) e = never cc
+      go u (Err f) e = refl
 
   module _ (l : Sizes) (M : Lent) (n : Machine) (fuel : Fuel) where
-    pub hook-refused : (g : Fault) → WordOr.Refused g ≡ pushing.answer → Rep l pushing.world M n fuel → Does l (hook_frame hook pc dst c w) M n fuel (Step.Fault g)
+    pub hook-refused : (g : Fault) → Err g ≡ pushing.answer → Rep l pushing.world M n fuel → Does l (hook_frame hook pc dst c w) M n fuel (Step.Fault g)
     hook-refused g e rep =
         does l M n fuel (hook_frame hook pc dst c w) w (Step.Fault g) (hook-by ∙ ap (hooked w c pushing.world) (sym e)) (subst (λ x. Rep l x M n fuel) (left g e) rep)
 
-    module _ (base : ℕ) (e : WordOr.Word base ≡ pushing.answer) where
+    module _ (base : ℕ) (e : Ok base ≡ pushing.answer) where
       -- the first register of the hook's frame
       pub hook-fits : Rep l pushing.world M n fuel → 1 ≤ wide → RegFits M.stack M.frames n.height n.depth 0
       hook-fits rep h =
@@ -168,14 +166,14 @@ module _ (hook pc dst c : ℕ) (w : World) where
 
 -- ---- its unit
 
-pub paid-sound : (w : World) → sound w ≡ true → sound (charge OptPc.None w).world ≡ true
-paid-sound w snd = →sound (charge OptPc.None w).world (charge-good OptPc.None w refl (known w snd)).sound
+pub paid-sound : (w : World) → sound w ≡ true → sound (charge None w).world ≡ true
+paid-sound w snd = →sound (charge None w).world (charge-good None w refl (known w snd)).sound
 
 module _ (hook pc dst c : ℕ) (w : World) (l : Sizes) (M : Lent) (n : Machine) (fuel : Fuel) where
-  pub not-paid : Does l (charge OptPc.None w) M n fuel Charge.Spent → Does l (hook_paid hook pc dst c w) M n fuel (Step.Fault Fault.OutOfFuel)
+  pub not-paid : Does l (charge None w) M n fuel Charge.Spent → Does l (hook_paid hook pc dst c w) M n fuel (Step.Fault Fault.OutOfFuel)
   not-paid d =
-      does l M n fuel (hook_paid hook pc dst c w) (charge OptPc.None w).world (Step.Fault Fault.OutOfFuel)
-      (ap (call_hook hook pc dst c (charge OptPc.None w).world) (sym d.answer)) d.world
+      does l M n fuel (hook_paid hook pc dst c w) (charge None w).world (Step.Fault Fault.OutOfFuel)
+      (ap (call_hook hook pc dst c (charge None w).world) (sym d.answer)) d.world
 
   -- any other answer of a charge is a unit paid
   going_on : (u : World) (a : Charge) → OneOf (0 ∷ 2 ∷ []) (tag_of Charge'.the_type a) → call_hook hook pc dst c u a ≡ hook_frame hook pc dst c u
@@ -183,30 +181,30 @@ module _ (hook pc dst c : ℕ) (w : World) (l : Sizes) (M : Lent) (n : Machine) 
   going_on u Charge.Spent h = absurd (miss (0 ∷ 2 ∷ []) 1 tt h)
   going_on u (Charge.Close k) h = refl
 
-  pub was-paid : (a : Charge) (s : Step) → OneOf (0 ∷ 2 ∷ []) (tag_of Charge'.the_type a) → a ≡ (charge OptPc.None w).answer
-      → Does l (hook_frame hook pc dst c (charge OptPc.None w).world) M n fuel s → Does l (hook_paid hook pc dst c w) M n fuel s
+  pub was-paid : (a : Charge) (s : Step) → OneOf (0 ∷ 2 ∷ []) (tag_of Charge'.the_type a) → a ≡ (charge None w).answer
+      → Does l (hook_frame hook pc dst c (charge None w).world) M n fuel s → Does l (hook_paid hook pc dst c w) M n fuel s
   was-paid a s h e d =
-      let u = (charge OptPc.None w).world in
+      let u = (charge None w).world in
       subst (λ o. Does l o M n fuel s) (sym (going_on u a h) ∙ ap (call_hook hook pc dst c u) e) d
 
 -- ---- Spawn, by the set-up's hook and what indirect answers
 
 module _ (l : Sizes) (w : World) (M : Lent) (m : Machine) (fuel : Fuel) (rep : Rep l w M m fuel) (pc dst callee argc : ℕ) where
-  by-hook : (o : Opt) → o ≡ hook_of M.setup → spawn pc dst callee argc w ≡ spawn_with o pc dst callee argc w
+  by-hook : (o : Option ℕ) → o ≡ hook_of M.setup → spawn pc dst callee argc w ≡ spawn_with o pc dst callee argc w
   unfolding spawn
   by-hook o e = ap (λ x. spawn_with x pc dst callee argc w) (sym (e ∙ hook-in w.setup M.setup rep.setup))
 
-  pub no-hook : Opt.None ≡ hook_of M.setup → Does l (spawn pc dst callee argc w) M m fuel (Step.Fault Fault.NoScheduler)
-  no-hook e = does l M m fuel (spawn pc dst callee argc w) w (Step.Fault Fault.NoScheduler) (by-hook Opt.None e) rep
+  pub no-hook : None ≡ hook_of M.setup → Does l (spawn pc dst callee argc w) M m fuel (Step.Fault Fault.NoScheduler)
+  no-hook e = does l M m fuel (spawn pc dst callee argc w) w (Step.Fault Fault.NoScheduler) (by-hook None e) rep
 
-  module _ (hook : ℕ) (e : Opt.Some hook ≡ hook_of M.setup) (M' : Lent) (n : Machine) (g : Fuel) where
-    pub spawn-refused : (a : WordOr) (f : Fault) → a ≡ WordOr.Refused f → Does l (indirect dst callee argc w) M' n g a → Does l (spawn pc dst callee argc w) M' n g (Step.Fault f)
+  module _ (hook : ℕ) (e : Some hook ≡ hook_of M.setup) (M' : Lent) (n : Machine) (g : Fuel) where
+    pub spawn-refused : (a : Result ℕ Fault) (f : Fault) → a ≡ Err f → Does l (indirect dst callee argc w) M' n g a → Does l (spawn pc dst callee argc w) M' n g (Step.Fault f)
     spawn-refused a f ea d =
         let o = indirect dst callee argc w in
-        does l M' n g (spawn pc dst callee argc w) o.world (Step.Fault f) (by-hook (Opt.Some hook) e ∙ ap (spawn_made hook pc dst o.world) (sym d.answer ∙ ea)) d.world
+        does l M' n g (spawn pc dst callee argc w) o.world (Step.Fault f) (by-hook (Some hook) e ∙ ap (spawn_made hook pc dst o.world) (sym d.answer ∙ ea)) d.world
 
-    pub spawn-called : (c : ℕ) (s : Step) → WordOr.Word c ≡ (indirect dst callee argc w).answer → Does l (hook_paid hook pc dst c (indirect dst callee argc w).world) M' n g s
+    pub spawn-called : (c : ℕ) (s : Step) → Ok c ≡ (indirect dst callee argc w).answer → Does l (hook_paid hook pc dst c (indirect dst callee argc w).world) M' n g s
         → Does l (spawn pc dst callee argc w) M' n g s
     spawn-called c s ec d =
         let o = indirect dst callee argc w in
-        subst (λ x. Does l x M' n g s) (sym (by-hook (Opt.Some hook) e ∙ ap (spawn_made hook pc dst o.world) (sym ec))) d
+        subst (λ x. Does l x M' n g s) (sym (by-hook (Some hook) e ∙ ap (spawn_made hook pc dst o.world) (sym ec))) d

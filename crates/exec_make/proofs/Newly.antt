@@ -15,7 +15,7 @@ use Rattle.model.specs.Frames.{top_base, put_reg}
 use Rattle.model.specs.Coro.{coro_create}
 use Rattle.model.specs.Exec.{window, put_made, coro_new}
 use Rattle.model.specs.Sound.{sound}
-use Rattle.model.specs.declared.coro.WordOr.{WordOr}
+use Rattle.std.specs.Prelude.{Result, Ok, Err}
 use Rattle.model.specs.declared.exec.Step.{Step}
 use Rattle.model.specs.declared.machine.Cont.{Cont}
 use Rattle.model.specs.declared.machine.Frame.{Frame}
@@ -35,11 +35,11 @@ use Rattle.coro_create.proofs.Setting.{known, one_of}
 
 -- ---- the word of what was made
 
-module _ (l : Sizes) (M : Lent) (m : Machine) (f : Fuel) (w : World) (dst : ℕ) (a : WordOr) where
-  pub made_word : (v : ℕ) → a ≡ WordOr.Word v → Rep l (put_reg dst v w) M m f → Does l (put_made dst w a) M m f Step.Next
+module _ (l : Sizes) (M : Lent) (m : Machine) (f : Fuel) (w : World) (dst : ℕ) (a : Result ℕ Fault) where
+  pub made_word : (v : ℕ) → a ≡ Ok v → Rep l (put_reg dst v w) M m f → Does l (put_made dst w a) M m f Step.Next
   made_word v e rep = does l M m f (put_made dst w a) (put_reg dst v w) Step.Next (ap (put_made dst w) e) rep
 
-  pub made-refused : (g : Fault) → a ≡ WordOr.Refused g → Rep l w M m f → Does l (put_made dst w a) M m f (Step.Fault g)
+  pub made-refused : (g : Fault) → a ≡ Err g → Rep l w M m f → Does l (put_made dst w a) M m f (Step.Fault g)
   made-refused g e rep = does l M m f (put_made dst w a) w (Step.Fault g) (ap (put_made dst w) e) rep
 
 -- ---- the argument window, in the words
@@ -75,7 +75,7 @@ module _ (l : Sizes) (w : World) (M : Lent) (m : Machine) (fuel : Fuel) (rep : R
       top-is (f ∷ fs) n d c s = ap (λ k. (get_or (f ∷ fs) k d).base) (let z : n - suc (n - 1) ≡ 0 = omega arith in z)
 
 -- arguments that are the window
-pub with-window : (l : Sizes) (w : World) (M : Lent) (m : Machine) (fuel : Fuel) (a : WordOr) (f closure : ℕ) (args window : List ℕ) → args ≡ window → Does l (coro_create f closure args w) M m fuel a
+pub with-window : (l : Sizes) (w : World) (M : Lent) (m : Machine) (fuel : Fuel) (a : Result ℕ Fault) (f closure : ℕ) (args window : List ℕ) → args ≡ window → Does l (coro_create f closure args w) M m fuel a
     → Does l (coro_create f closure window w) M m fuel a
 with-window l w M m fuel a f closure args window e d = subst (λ x. Does l (coro_create f closure x w) M m fuel a) e d
 
@@ -97,11 +97,11 @@ create-still l M m fuel w rep snd f closure args named =
 -- ---- the instruction
 
 -- something is made, and then its word is put
-pub made-put : (l : Sizes) (M : Lent) (m : Machine) (fuel : Fuel) (o : After WordOr) (dst : ℕ) (a : WordOr) (s : Step) → a ≡ o.answer → Does l (put_made dst o.world a) M m fuel s
+pub made-put : (l : Sizes) (M : Lent) (m : Machine) (fuel : Fuel) (o : After (Result ℕ Fault)) (dst : ℕ) (a : Result ℕ Fault) (s : Step) → a ≡ o.answer → Does l (put_made dst o.world a) M m fuel s
     → Does l (and_then o (put_made dst)) M m fuel s
 made-put l M m fuel o dst a s e d = subst (λ x. Does l (put_made dst o.world x) M m fuel s) e d
 
-pub new-met : (l : Sizes) (M : Lent) (m : Machine) (fuel : Fuel) (w : World) (dst f argc : ℕ) (a : WordOr) (s : Step) →
+pub new-met : (l : Sizes) (M : Lent) (m : Machine) (fuel : Fuel) (w : World) (dst f argc : ℕ) (a : Result ℕ Fault) (s : Step) →
     let o = coro_create f nil (window dst argc w) w in a ≡ o.answer → Does l (put_made dst o.world a) M m fuel s → Does l (coro_new dst f argc w) M m fuel s
 unfolding coro_new
 new-met l M m fuel w dst f argc a s e d = made-put l M m fuel (coro_create f nil (window dst argc w) w) dst a s e d

@@ -1,9 +1,8 @@
 -- coro.rs: indirect; exec, CoroNewIndirect, on the lent words.
-use Rattle.std.specs.Prelude.{not, List, ℕ, ◌+◌, ◌-◌, ◌*◌, ◌≤◌, length, get_or, eqb}
+use Rattle.std.specs.Prelude.{not, List, ℕ, ◌+◌, ◌-◌, ◌*◌, ◌≤◌, length, get_or, eqb, Result, Err}
 use Rattle.lists.specs.Pick.{pick}
 use Rattle.heap.specs.Heap.{TableFits}
 use Rattle.heap.specs.declared.fault.Fault.{Fault}
-use Rattle.heap.specs.declared.kind.Callable.{Callable}
 use Rattle.model.specs.Program.{Setup, func, is_function}
 use Rattle.model.specs.Object.{Object}
 use Rattle.model.specs.World.{World}
@@ -19,23 +18,23 @@ use Rattle.memory_world.specs.declared.machine.Sizes.{Sizes}
 -- ---- which function a word calls
 
 -- the function that an object is; of another object, the fault
-abbrev pub callee_in : Object → Fault → Callable
-callee_in Object.Empty g = Callable.Not g
-callee_in (Object.Func f) g = Callable.Func f
-callee_in (Object.Int n) g = Callable.Not g
-callee_in (Object.Iter s d k) g = Callable.Not g
-callee_in (Object.Error e f p x) g = Callable.Not g
-callee_in (Object.Coro k r) g = Callable.Not g
+abbrev pub callee_in : Object → Fault → Result ℕ Fault
+callee_in Object.Empty g = Err g
+callee_in (Object.Func f) g = Result.Ok f
+callee_in (Object.Int n) g = Err g
+callee_in (Object.Iter s d k) g = Err g
+callee_in (Object.Error e f p x) g = Err g
+callee_in (Object.Coro k r) g = Err g
 
 -- it is one of the set-up's, and takes argc arguments
-abbrev pub taking : Setup → ℕ → Callable → Callable
-taking s argc (Callable.Not g) = Callable.Not g
-taking s argc (Callable.Func f) =
-    pick (not (is_function s f)) (Callable.Not Fault.TypeError)
-    (pick (not (eqb (func s f).params argc)) (Callable.Not Fault.TypeError)
-    (Callable.Func f))
+abbrev pub taking : Setup → ℕ → Result ℕ Fault → Result ℕ Fault
+taking s argc (Err g) = Err g
+taking s argc (Result.Ok f) =
+    pick (not (is_function s f)) (Err Fault.TypeError)
+    (pick (not (eqb (func s f).params argc)) (Err Fault.TypeError)
+    (Result.Ok f))
 
-abbrev pub called : ℕ → ℕ → World → Callable
+abbrev pub called : ℕ → ℕ → World → Result ℕ Fault
 called v argc w = taking w.setup argc (callee_in (object w v) (not_a w v))
 
 -- the slots and the set-up are lent

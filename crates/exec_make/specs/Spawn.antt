@@ -1,12 +1,11 @@
 -- coro.rs: exec, Spawn, on the lent words.
-use Rattle.std.specs.Prelude.{List, ℕ, ◌^◌, ◌≤◌, ◌<◌}
+use Rattle.std.specs.Prelude.{List, ℕ, ◌^◌, ◌≤◌, ◌<◌, None}
 use Rattle.heap.specs.Word.{nil}
 use Rattle.model.specs.World.{World, After, and_then}
 use Rattle.model.specs.Frames.{store_pc}
 use Rattle.model.specs.Cleanup.{charge}
 use Rattle.model.specs.Machine.{push_frame}
 use Rattle.model.specs.Exec.{hooked, call_hook}
-use Rattle.model.specs.declared.call.OptPc.{OptPc}
 use Rattle.model.specs.declared.exec.Step.{Step}
 use Rattle.model.specs.declared.machine.Cont.{Cont}
 use Rattle.memory_tables.specs.Layout.{function_in}
@@ -21,7 +20,7 @@ hook_frame hook pc dst c w = and_then (push_frame hook nil (Cont.Value dst) (sto
 
 -- .. after its unit was paid
 abbrev pub hook_paid : ℕ → ℕ → ℕ → ℕ → World → After Step
-hook_paid hook pc dst c w = and_then (charge OptPc.None w) (call_hook hook pc dst c)
+hook_paid hook pc dst c w = and_then (charge None w) (call_hook hook pc dst c)
 
 -- a frame that calls, and a hook with a register
 pub record HookFits (sizes : Sizes) (stack frames setup : List ℕ) (m : Machine) (pc hook : ℕ) : Type 0 where

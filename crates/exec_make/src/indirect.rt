@@ -5,29 +5,34 @@ ghost use Rattle.memory_world.specs.Lendings.{top_making};
 ghost use Rattle.memory_world.specs.Contract.{Met, Reads, every, if_sound, only, of_mut, of_ref};
 
 use crate::new::{create, put_made};
-use coro_create::create::CreateDid;
 use heap::fault::Fault;
-use heap::kind::{Callable, callee};
+use heap::kind::callee;
 use heap::value::Word;
-use machine_state::step::StepDid;
+use machine_state::called::Did;
 use memory_world::machine::{Machine, Sizes};
-use model::coro::WordOr;
+use model::exec::Step;
 
 // The function that a word calls with argc arguments, or the fault.
-pub(crate) fn called(slots: &[u64], setup: &[u64], m: Machine, v: Word, argc: u64) -> Callable
+pub(crate) fn called(
+    slots: &[u64],
+    setup: &[u64],
+    m: Machine,
+    v: Word,
+    argc: u64,
+) -> Result<u64, Fault>
     requires { CalledFits slots.now setup.now m.count }
     ensures { every (λ sizes. Reads sizes (called v.0 argc) (table_setup (of_ref slots) (of_ref setup)) (only m) result) }
 {
     match callee(slots, m.count, v) {
-        Callable::Not(g) => Callable::Not(g),
-        Callable::Func(f) => {
+        Err(g) => Err(g),
+        Ok(f) => {
             if !memory_tables::program::is_function(setup, f) {
-                return Callable::Not(Fault::TypeError);
+                return Err(Fault::TypeError);
             }
             if memory_tables::program::params_at(setup, f as usize) != argc {
-                return Callable::Not(Fault::TypeError);
+                return Err(Fault::TypeError);
             }
-            Callable::Func(f)
+            Ok(f)
         }
     }
 }
@@ -45,17 +50,17 @@ pub(crate) fn indirect(
     dst: u64,
     callee: u64,
     argc: u64,
-) -> CreateDid
+) -> Did<Result<u64, Fault>>
     requires { IndirectFits sizes stack.now frames.now slots.old saved_stack.old saved_frames.old setup.now m dst callee argc }
     ensures { Met if_sound sizes (indirect dst callee argc) (top_making (of_ref stack) (of_ref frames) (of_mut slots) (of_mut saved_stack) (of_mut saved_frames) (of_ref setup)) (only m) (only result.machine) result.answer }
 {
     let v = memory_tables::stack::reg(stack, frames, m.height, m.depth, callee as usize);
     match called(slots, setup, m, Word(v), argc) {
-        Callable::Not(g) => CreateDid {
+        Err(g) => Did {
             machine: m,
-            answer: WordOr::Refused(g),
+            answer: Err(g),
         },
-        Callable::Func(f) => create(
+        Ok(f) => create(
             stack,
             frames,
             slots,
@@ -85,9 +90,9 @@ pub fn coro_new_indirect(
     dst: u64,
     callee: u64,
     argc: u64,
-) -> StepDid
+) -> Did<Step>
     requires { IndirectFits sizes stack.old frames.now slots.old saved_stack.old saved_frames.old setup.now m dst callee argc }
-    ensures { Met if_sound sizes (coro_new_indirect dst callee argc) (top_making (of_mut stack) (of_ref frames) (of_mut slots) (of_mut saved_stack) (of_mut saved_frames) (of_ref setup)) (only m) (only result.machine) result.step }
+    ensures { Met if_sound sizes (coro_new_indirect dst callee argc) (top_making (of_mut stack) (of_ref frames) (of_mut slots) (of_mut saved_stack) (of_mut saved_frames) (of_ref setup)) (only m) (only result.machine) result.answer }
 {
     let did = indirect(
         stack,
@@ -105,8 +110,8 @@ pub fn coro_new_indirect(
     let next = did.machine;
     let answer = did.answer;
     let step = put_made(stack, frames, next, dst, answer);
-    StepDid {
+    Did {
         machine: next,
-        step,
+        answer: step,
     }
 }

@@ -6,11 +6,11 @@ ghost use Rattle.exec_make.specs.New.{NewFits};
 ghost use Rattle.memory_world.specs.Lendings.{top, top_making};
 ghost use Rattle.memory_world.specs.Contract.{Met, any, every, if_sound, only, of_mut, of_ref};
 
-use coro_create::create::{CreateDid, coro_create};
+use coro_create::create::coro_create;
+use heap::fault::Fault;
 use heap::value::Word;
-use machine_state::step::StepDid;
+use machine_state::called::Did;
 use memory_world::machine::{Machine, Sizes};
-use model::coro::WordOr;
 use model::exec::Step;
 
 // A coroutine of function f and a closure, with the argc words after register dst, which are set aside.
@@ -27,7 +27,7 @@ pub(crate) fn create(
     f: u64,
     closure: u64,
     argc: u64,
-) -> CreateDid
+) -> Did<Result<u64, Fault>>
     requires { NewFits sizes stack.now frames.now slots.old saved_stack.old saved_frames.old setup.now m dst f argc }
     ensures { Met if_sound sizes (λ w. coro_create f closure (window dst argc w) w) (top_making (of_ref stack) (of_ref frames) (of_mut slots) (of_mut saved_stack) (of_mut saved_frames) (of_ref setup)) (only m) (only result.machine) result.answer }
 {
@@ -50,16 +50,22 @@ pub(crate) fn create(
 }
 
 // r!(dst) = t!(made); Step::Next
-pub(crate) fn put_made(stack: &mut [u64], frames: &[u64], m: Machine, dst: u64, a: WordOr) -> Step
+pub(crate) fn put_made(
+    stack: &mut [u64],
+    frames: &[u64],
+    m: Machine,
+    dst: u64,
+    a: Result<u64, Fault>,
+) -> Step
     requires { RegFits stack.old frames.now m.height m.depth dst }
     ensures { every (λ sizes. Met any sizes (λ w. put_made dst w a) (top (of_mut stack) (of_ref frames)) (only m) (only m) result) }
 {
     match a {
-        WordOr::Word(v) => {
+        Ok(v) => {
             machine_state::frame::put(stack, frames, m, dst, v);
             Step::Next
         }
-        WordOr::Refused(f) => Step::Fault(f),
+        Err(f) => Step::Fault(f),
     }
 }
 
@@ -76,9 +82,9 @@ pub fn coro_new(
     dst: u64,
     f: u64,
     argc: u64,
-) -> StepDid
+) -> Did<Step>
     requires { NewFits sizes stack.old frames.now slots.old saved_stack.old saved_frames.old setup.now m dst f argc }
-    ensures { Met if_sound sizes (coro_new dst f argc) (top_making (of_mut stack) (of_ref frames) (of_mut slots) (of_mut saved_stack) (of_mut saved_frames) (of_ref setup)) (only m) (only result.machine) result.step }
+    ensures { Met if_sound sizes (coro_new dst f argc) (top_making (of_mut stack) (of_ref frames) (of_mut slots) (of_mut saved_stack) (of_mut saved_frames) (of_ref setup)) (only m) (only result.machine) result.answer }
 {
     let did = create(
         stack,
@@ -97,8 +103,8 @@ pub fn coro_new(
     let next = did.machine;
     let answer = did.answer;
     let step = put_made(stack, frames, next, dst, answer);
-    StepDid {
+    Did {
         machine: next,
-        step,
+        answer: step,
     }
 }

@@ -7,10 +7,9 @@ ghost use Rattle.memory_world.specs.Contract.{Met, if_sound, only, with, of_mut,
 use crate::indirect::indirect;
 use coro_clean::charge::charge_plain;
 use heap::fault::Fault;
-use heap::value::{Opt, Word};
-use machine_state::step::{StepDid, Stepped};
+use heap::value::Word;
+use machine_state::called::{Called, Did};
 use memory_world::machine::{Machine, Sizes};
-use model::coro::WordOr;
 use model::exec::Step;
 use model::machine::{Charge, Cont, Fuel};
 
@@ -25,9 +24,9 @@ pub(crate) fn push_hook(
     pc: u64,
     dst: u64,
     c: u64,
-) -> StepDid
+) -> Did<Step>
     requires { HookFits sizes stack.old frames.old setup.now m pc hook }
-    ensures { Met if_sound sizes (hook_frame hook pc dst c) (top_setup (of_mut stack) (of_mut frames) (of_ref setup)) (only m) (only result.machine) result.step }
+    ensures { Met if_sound sizes (hook_frame hook pc dst c) (top_setup (of_mut stack) (of_mut frames) (of_ref setup)) (only m) (only result.machine) result.answer }
 {
     let did = machine_state::frame::push_at(
         stack,
@@ -43,15 +42,15 @@ pub(crate) fn push_hook(
     let next = did.machine;
     let answer = did.answer;
     match answer {
-        WordOr::Refused(g) => StepDid {
+        Err(g) => Did {
             machine: next,
-            step: Step::Fault(g),
+            answer: Step::Fault(g),
         },
-        WordOr::Word(_base) => {
+        Ok(_base) => {
             machine_state::frame::put(stack, frames, next, 0, c);
-            StepDid {
+            Did {
                 machine: next,
-                step: Step::Frame,
+                answer: Step::Frame,
             }
         }
     }
@@ -69,27 +68,27 @@ pub(crate) fn call_hook(
     pc: u64,
     dst: u64,
     c: u64,
-) -> Stepped
+) -> Called<Step>
     requires { HookFits sizes stack.old frames.old setup.now m pc hook }
-    ensures { Met if_sound sizes (hook_paid hook pc dst c) (top_setup (of_mut stack) (of_mut frames) (of_ref setup)) (with m fuel) (with result.machine result.fuel) result.step }
+    ensures { Met if_sound sizes (hook_paid hook pc dst c) (top_setup (of_mut stack) (of_mut frames) (of_ref setup)) (with m fuel) (with result.machine result.fuel) result.answer }
 {
     let paid = charge_plain(fuel);
     let left = paid.fuel;
     let answer = paid.answer;
     if let Charge::Spent = answer {
-        return Stepped {
+        return Called {
             machine: m,
             fuel: left,
-            step: Step::Fault(Fault::OutOfFuel),
+            answer: Step::Fault(Fault::OutOfFuel),
         };
     }
     let did = push_hook(stack, frames, setup, m, sizes, hook, pc, dst, c);
     let next = did.machine;
-    let step = did.step;
-    Stepped {
+    let step = did.answer;
+    Called {
         machine: next,
         fuel: left,
-        step,
+        answer: step,
     }
 }
 
@@ -108,15 +107,15 @@ pub fn spawn(
     dst: u64,
     callee: u64,
     argc: u64,
-) -> Stepped
+) -> Called<Step>
     requires { SpawnFits sizes stack.old frames.old slots.old saved_stack.old saved_frames.old setup.now m pc dst callee argc }
-    ensures { Met if_sound sizes (spawn pc dst callee argc) (top_making (of_mut stack) (of_mut frames) (of_mut slots) (of_mut saved_stack) (of_mut saved_frames) (of_ref setup)) (with m fuel) (with result.machine result.fuel) result.step }
+    ensures { Met if_sound sizes (spawn pc dst callee argc) (top_making (of_mut stack) (of_mut frames) (of_mut slots) (of_mut saved_stack) (of_mut saved_frames) (of_ref setup)) (with m fuel) (with result.machine result.fuel) result.answer }
 {
-    let Opt::Some(hook) = memory_tables::program::hook(setup) else {
-        return Stepped {
+    let Some(hook) = memory_tables::program::hook(setup) else {
+        return Called {
             machine: m,
             fuel,
-            step: Step::Fault(Fault::NoScheduler),
+            answer: Step::Fault(Fault::NoScheduler),
         };
     };
     let did = indirect(
@@ -135,11 +134,11 @@ pub fn spawn(
     let next = did.machine;
     let answer = did.answer;
     match answer {
-        WordOr::Refused(g) => Stepped {
+        Err(g) => Called {
             machine: next,
             fuel,
-            step: Step::Fault(g),
+            answer: Step::Fault(g),
         },
-        WordOr::Word(c) => call_hook(stack, frames, setup, next, sizes, fuel, hook, pc, dst, c),
+        Ok(c) => call_hook(stack, frames, setup, next, sizes, fuel, hook, pc, dst, c),
     }
 }

@@ -12,9 +12,7 @@ use Rattle.heap.specs.Table.{Slot, slot, get, dyn_int_at, dyn_int_by, dyn_int_of
 use Rattle.heap.specs.Heap.{slots_of, coro_of}
 use Rattle.heap.specs.declared.fault.Fault.{Fault}
 use Rattle.heap.specs.declared.value.Class.{Class}
-use Rattle.heap.specs.declared.value.Opt.{Opt}
-use Rattle.heap.specs.declared.heap.Place.{Place}
-use Rattle.heap.specs.declared.heap.Coroutine.TheVariants as RV
+use Rattle.std.specs.Prelude.{Option, Some, None, Ok, Err}
 use Rattle.heap.specs.declared.object.CoroObj.{CoroObj}
 use Rattle.heap.specs.declared.object.Object as H
 use Rattle.heap.specs.declared.object.Object.TheVariants as O
@@ -41,9 +39,9 @@ int_same (Object.Iter s d k) = refl
 int_same (Object.Error e f p v) = refl
 int_same (Object.Coro k r) = refl
 
-place_same : (xs : List (Slot Object)) (p : Place) → dyn_int_at O.Empty HO.is_filled HO.int_of (to_slots xs) p ≡ dyn_int_at Object.Empty is_filled int_in xs p
-place_same xs Place.Nothing = refl
-place_same xs (Place.At i) = ap (λ (x : Slot H.Object). HO.int_of x.object) (at_map xs i) ∙ int_same (get_or xs i (slot 0 Object.Empty)).object
+place_same : (xs : List (Slot Object)) (p : Option ℕ) → dyn_int_at O.Empty HO.is_filled HO.int_of (to_slots xs) p ≡ dyn_int_at Object.Empty is_filled int_in xs p
+place_same xs None = refl
+place_same xs (Some i) = ap (λ (x : Slot H.Object). HO.int_of x.object) (at_map xs i) ∙ int_same (get_or xs i (slot 0 Object.Empty)).object
 
 class_same : (xs : List (Slot Object)) (k : Class) → dyn_int_by O.Empty HO.is_filled HO.int_of (to_slots xs) k ≡ dyn_int_by Object.Empty is_filled int_in xs k
 class_same xs Class.Nil = refl
@@ -62,20 +60,20 @@ module _ (l : Sizes) (M : Lent) (m : Machine) (f : Fuel) (w : World) (rep : Rep 
   here : coro_of (slots_of m.count M.slots) v ≡ coro_of (to_slots w.slots) v
   here = ap (λ xs. coro_of xs v) (slots-are (to_slots w.slots) M.slots m.count rep.slots)
 
-  pub largest-none : (g : Fault) → RV.Not g ≡ coro_of (slots_of m.count M.slots) v → 0xFFFF_FFFF_FFFF_FFFF ≡ largest_in (coro w v)
+  pub largest-none : (g : Fault) → Err g ≡ coro_of (slots_of m.count M.slots) v → 0xFFFF_FFFF_FFFF_FFFF ≡ largest_in (coro w v)
   largest-none g e = sym (ap largest_in (lacks w.slots v g (e ∙ here)).coro)
 
-  pub largest-at : (i : ℕ) (c : CoroObj) → RV.At i c ≡ coro_of (slots_of m.count M.slots) v → c.largest ≡ largest_in (coro w v)
+  pub largest-at : (i : ℕ) (c : CoroObj) → Ok (i, c) ≡ coro_of (slots_of m.count M.slots) v → c.largest ≡ largest_in (coro w v)
   largest-at i c e = let t = there w.slots v i c (e ∙ here) in ap (λ x. x.largest) t.is ∙ sym (ap largest_in t.coro)
 
 -- ---- 01: "raises the largest if the key is a greater integer"
 
-module _ (largest : ℕ) (n : Opt) where
-  pub keeps-none : n ≡ Opt.None → largest ≡ larger_of largest n
+module _ (largest : ℕ) (n : Option ℕ) where
+  pub keeps-none : n ≡ None → largest ≡ larger_of largest n
   keeps-none e = sym (ap (larger_of largest) e)
 
-  pub rises : (k : ℕ) → n ≡ Opt.Some k → less_bits largest k ≡ true → k ≡ larger_of largest n
+  pub rises : (k : ℕ) → n ≡ Some k → less_bits largest k ≡ true → k ≡ larger_of largest n
   rises k e h = sym (ap (larger_of largest) e ∙ ap (λ (b : Bool). pick b k largest) h ∙ pick_true _ _)
 
-  pub keeps : (k : ℕ) → n ≡ Opt.Some k → less_bits largest k ≡ false → largest ≡ larger_of largest n
+  pub keeps : (k : ℕ) → n ≡ Some k → less_bits largest k ≡ false → largest ≡ larger_of largest n
   keeps k e h = sym (ap (larger_of largest) e ∙ ap (λ (b : Bool). pick b k largest) h ∙ pick-false _ _)

@@ -1,22 +1,17 @@
 -- A suspension and its delivery on the world. Assumes nothing.
 use mathlib.Core.Path.{◌≡◌, refl, sym, ap, ◌∙◌, subst}
-use mathlib.Core.Bool.{Bool, true, false}
+use mathlib.Core.Bool.{true, false}
 use Prim.Native.Nat.{ℕ, ◌-◌, ◌≤◌}
 use native.Mathlib.Omega.{arith}
-use borrow.Author.Tests.{eq-eqb, ne_eqb}
-use Rattle.lists.specs.Pick.{pick, pick_true, pick-false}
-use Rattle.heap.specs.Fault.{number_of}
 use Rattle.heap.specs.declared.fault.Fault.{Fault}
 use Rattle.heap.specs.declared.object.CoroState.{CoroState}
 use Rattle.model.specs.World.{World, after}
 use Rattle.model.specs.Frames.{store_pc}
-use Rattle.model.specs.Machine.{is_ok}
 use Rattle.model.specs.Coro.{coro_suspend, deliver}
-use Rattle.model.specs.Exec.{deliver_all, suspend}
+use Rattle.model.specs.Exec.{delivered, deliver_all, suspend}
 use Rattle.model.specs.Sound.{sound}
 use Rattle.model.specs.declared.coro.Event.{Event}
-use Rattle.model.specs.declared.coro.Keys.{Keys}
-use Rattle.model.specs.declared.coro.Suspension.{Suspension}
+use Rattle.std.specs.Prelude.{Option, Result, Ok, Err}
 use Rattle.model.specs.declared.exec.Step.{Step}
 use Rattle.model.specs.declared.machine.Driver.{Driver}
 use Rattle.model.specs.declared.machine.Fuel.{Fuel}
@@ -34,31 +29,24 @@ use Rattle.exec_yield.specs.Suspend.{stepped_by, DeliverFits}
 
 -- ---- a delivery
 
-pub frame_step : (f : Fault) → number_of f ≡ 0 → Step.Frame ≡ stepped_by f
-frame_step f e = sym (ap (λ (b : Bool). pick b Step.Frame (Step.Unwind f)) (eq-eqb (number_of f) 0 e) ∙ pick_true _ _)
-
-pub unwind-step : (f : Fault) → (number_of f ≡ 0 → ⊥) → Step.Unwind f ≡ stepped_by f
-unwind-step f e = sym (ap (λ (b : Bool). pick b Step.Frame (Step.Unwind f)) (ne_eqb (number_of f) 0 e) ∙ pick-false _ _)
-
 -- the step that a delivery leads to
-stepped : (b : Bool) (w : World) (f : Fault) → pick b (after w Step.Frame) (after w (Step.Unwind f)) ≡ after w (pick b Step.Frame (Step.Unwind f))
-unfolding pick
-stepped true w f = refl
-stepped false w f = refl
+stepped : (w : World) (r : Result Unit Fault) → delivered w r ≡ after w (stepped_by r)
+stepped w (Ok u) = refl
+stepped w (Err f) = refl
 
-module _ (l : Sizes) (M : Lent) (m : Machine) (fuel : Fuel) (w : World) (a : Suspension) where
-  pub deliver-done : (d : Driver) (e : Event) (f : Fault) (s : Step) → a ≡ Suspension.Done d e → Does l (deliver d e w) M m fuel f → s ≡ stepped_by f → Does l (deliver_all w a) M m fuel s
+module _ (l : Sizes) (M : Lent) (m : Machine) (fuel : Fuel) (w : World) (a : Result (Driver × Event) Fault) where
+  pub deliver-done : (d : Driver) (e : Event) (f : Result Unit Fault) (s : Step) → a ≡ Ok (d, e) → Does l (deliver d e w) M m fuel f → s ≡ stepped_by f → Does l (deliver_all w a) M m fuel s
   deliver-done d e f s ea did es =
       let u = (deliver d e w).world in
       does l M m fuel (deliver_all w a) u s
-      (ap (deliver_all w) ea ∙ stepped (is_ok (deliver d e w).answer) u (deliver d e w).answer ∙ ap (λ g. after u (stepped_by g)) (sym did.answer) ∙ ap (after u) (sym es)) did.world
+      (ap (deliver_all w) ea ∙ stepped u (deliver d e w).answer ∙ ap (λ g. after u (stepped_by g)) (sym did.answer) ∙ ap (after u) (sym es)) did.world
 
-  pub deliver-refused : (f : Fault) → a ≡ Suspension.Refused f → Rep l w M m fuel → Does l (deliver_all w a) M m fuel (Step.Fault f)
+  pub deliver-refused : (f : Fault) → a ≡ Err f → Rep l w M m fuel → Does l (deliver_all w a) M m fuel (Step.Fault f)
   deliver-refused f ea rep = does l M m fuel (deliver_all w a) w (Step.Fault f) (ap (deliver_all w) ea) rep
 
 -- ---- a suspension
 
-module _ (l : Sizes) (M : Lent) (m : Machine) (fuel : Fuel) (st : CoroState) (dst payload : ℕ) (keys : Keys) (w : World) (snd : sound w ≡ true) (a : Suspension) where
+module _ (l : Sizes) (M : Lent) (m : Machine) (fuel : Fuel) (st : CoroState) (dst payload : ℕ) (keys : Option (ℕ × ℕ)) (w : World) (snd : sound w ≡ true) (a : Result (Driver × Event) Fault) where
   -- the driver waits in the top frame
   pub drives : Does l (coro_suspend st dst payload keys w) M m fuel a → DeliverFits M.stack M.frames M.slots m a
   drives did =
@@ -78,7 +66,7 @@ module _ (l : Sizes) (M : Lent) (m : Machine) (fuel : Fuel) (st : CoroState) (ds
       }
 
 -- a pc stored, a suspension, and its delivery
-pub suspended : (l : Sizes) (M : Lent) (m : Machine) (fuel : Fuel) (w : World) (pc : ℕ) (st : CoroState) (dst payload : ℕ) (keys : Keys) (a : Suspension) (s : Step)
+pub suspended : (l : Sizes) (M : Lent) (m : Machine) (fuel : Fuel) (w : World) (pc : ℕ) (st : CoroState) (dst payload : ℕ) (keys : Option (ℕ × ℕ)) (a : Result (Driver × Event) Fault) (s : Step)
     → a ≡ (coro_suspend st dst payload keys (store_pc pc w)).answer
     → Does l (deliver_all (coro_suspend st dst payload keys (store_pc pc w)).world a) M m fuel s
     → Does l (suspend pc st dst payload keys w) M m fuel s

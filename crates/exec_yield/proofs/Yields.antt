@@ -11,15 +11,12 @@ use Rattle.model.specs.World.{World, After, and_then}
 use Rattle.model.specs.Frames.{reg}
 use Rattle.heap.specs.Coding.{of_bits}
 use Rattle.heap.specs.Int.{inline_of, next_key}
-use Rattle.heap.specs.declared.int.Exact.{Exact}
-use Rattle.heap.specs.declared.int.Inline.{Inline}
+use Rattle.std.specs.Prelude.{Option, Result, Some, None, Err}
+use Rattle.heap.specs.declared.value.Word.{Word}
 use Rattle.model.specs.Object.{Object}
 use Rattle.model.specs.Heap.{coro, fits, slots_full, alloc, encode_at, encode_int}
-use Rattle.model.specs.declared.coro.WordOr.{WordOr}
 use Rattle.model.specs.Exec.{largest_in, key_at, key_exact, auto_key, suspend, yield_key, yield_on, yield, yield_kv_on, yield_kv, await_on, await}
 use Rattle.model.specs.Sound.{sound}
-use Rattle.model.specs.declared.coro.AutoKey.{AutoKey}
-use Rattle.model.specs.declared.coro.Keys.{Keys}
 use Rattle.model.specs.declared.exec.Step.{Step}
 use Rattle.model.specs.declared.machine.Active.{Active}
 use Rattle.model.specs.declared.machine.Fuel.{Fuel}
@@ -75,16 +72,16 @@ module _ (l : Sizes) (M : Lent) (m : Machine) (f : Fuel) (w : World) (pc dst src
   unfolding await
   await-idle e rep = does l M m f (await pc dst src w) w (Step.Fault Fault.CannotSuspend) (ap (λ cs. await_on cs pc dst src w) e) rep
 
-  pub await-runs : (i : Innermost w.chain) (p : ℕ) (s : Step) → p ≡ reg w src → Does l (suspend pc CoroState.Awaiting dst p Keys.Keep w) M m f s → Does l (await pc dst src w) M m f s
+  pub await-runs : (i : Innermost w.chain) (p : ℕ) (s : Step) → p ≡ reg w src → Does l (suspend pc CoroState.Awaiting dst p None w) M m f s → Does l (await pc dst src w) M m f s
   unfolding await
   await-runs i p s e d =
-      subst (λ o. Does l o M m f s) (ap (λ x. suspend pc CoroState.Awaiting dst x Keys.Keep w) e ∙ sym (ap (λ cs. await_on cs pc dst src w) i.are)) d
+      subst (λ o. Does l o M m f s) (ap (λ x. suspend pc CoroState.Awaiting dst x None w) e ∙ sym (ap (λ cs. await_on cs pc dst src w) i.are)) d
 
   pub kv-idle : (key : ℕ) → w.chain ≡ [] → Rep l w M m f → Does l (yield_kv pc dst src key w) M m f (Step.Fault Fault.CannotSuspend)
   unfolding yield_kv
   kv-idle key e rep = does l M m f (yield_kv pc dst src key w) w (Step.Fault Fault.CannotSuspend) (ap (λ cs. yield_kv_on cs pc dst src key w) e) rep
 
-  pub kv-runs : (key : ℕ) (i : Innermost w.chain) (p v k : ℕ) (keys : Keys) (s : Step) → p ≡ reg w src → v ≡ i.active.coro → k ≡ reg w key → keys ≡ keys_for v k w
+  pub kv-runs : (key : ℕ) (i : Innermost w.chain) (p v k : ℕ) (keys : Option (ℕ × ℕ)) (s : Step) → p ≡ reg w src → v ≡ i.active.coro → k ≡ reg w key → keys ≡ keys_for v k w
       → Does l (suspend pc CoroState.Yielded dst p keys w) M m f s → Does l (yield_kv pc dst src key w) M m f s
   unfolding yield_kv
   kv-runs key i p v k keys s ep ev ek es d =
@@ -95,7 +92,7 @@ module _ (l : Sizes) (M : Lent) (m : Machine) (f : Fuel) (w : World) (pc dst src
   unfolding yield
   yield-idle e rep = does l M m f (yield pc dst src w) w (Step.Fault Fault.CannotSuspend) (ap (λ cs. yield_on cs pc dst src w) e) rep
 
-  pub yield-runs : (i : Innermost w.chain) (p v largest : ℕ) (key : AutoKey) (s : Step) → p ≡ reg w src → v ≡ i.active.coro → largest ≡ largest_in (coro w v)
+  pub yield-runs : (i : Innermost w.chain) (p v largest : ℕ) (key : Result (ℕ × ℕ) Fault) (s : Step) → p ≡ reg w src → v ≡ i.active.coro → largest ≡ largest_in (coro w v)
       → key ≡ (auto_key largest w).answer → Does l (yield_key pc dst p (auto_key largest w).world key) M m f s → Does l (yield pc dst src w) M m f s
   unfolding yield
   yield-runs i p v largest key s ep ev el ek d =
@@ -106,11 +103,11 @@ module _ (l : Sizes) (M : Lent) (m : Machine) (f : Fuel) (w : World) (pc dst src
 
 -- ---- a yield whose key was made, or not
 
-module _ (l : Sizes) (M : Lent) (m : Machine) (f : Fuel) (w : World) (pc dst p : ℕ) (a : AutoKey) (s : Step) where
-  pub keyed-yield : (key largest : ℕ) → a ≡ AutoKey.Key key largest → Does l (suspend pc CoroState.Yielded dst p (Keys.Set key largest) w) M m f s → Does l (yield_key pc dst p w a) M m f s
+module _ (l : Sizes) (M : Lent) (m : Machine) (f : Fuel) (w : World) (pc dst p : ℕ) (a : Result (ℕ × ℕ) Fault) (s : Step) where
+  pub keyed-yield : (key largest : ℕ) → a ≡ Result.Ok (key, largest) → Does l (suspend pc CoroState.Yielded dst p (Some (key, largest)) w) M m f s → Does l (yield_key pc dst p w a) M m f s
   keyed-yield key largest e d = subst (λ o. Does l o M m f s) (sym (ap (yield_key pc dst p w) e)) d
 
-pub unkeyed-yield : (l : Sizes) (M : Lent) (m : Machine) (f : Fuel) (w : World) (pc dst p : ℕ) (a : AutoKey) (g : Fault) → a ≡ AutoKey.Refused g → Rep l w M m f
+pub unkeyed-yield : (l : Sizes) (M : Lent) (m : Machine) (f : Fuel) (w : World) (pc dst p : ℕ) (a : Result (ℕ × ℕ) Fault) (g : Fault) → a ≡ Err g → Rep l w M m f
     → Does l (yield_key pc dst p w a) M m f (Step.Fault g)
 unkeyed-yield l M m f w pc dst p a g e rep = does l M m f (yield_key pc dst p w a) w (Step.Fault g) (ap (yield_key pc dst p w) e) rep
 
@@ -119,24 +116,24 @@ unkeyed-yield l M m f w pc dst p a g e rep = does l M m f (yield_key pc dst p w 
 alloc-chain : (bytes : ℕ) (o : Object) (w : World) → (alloc bytes o w).world.chain ≡ w.chain
 unfolding alloc
 alloc-chain bytes o w =
-    let P : After WordOr → Type 0 = λ x. x.world.chain ≡ w.chain in
+    let P : After (Result ℕ Fault) → Type 0 = λ x. x.world.chain ≡ w.chain in
     picked P (not (fits w bytes)) (λ _. refl) (λ _. picked P (slots_full w) (λ _. refl) (λ _. refl))
 
-encode-chain : (i : Inline) (n : ℕ) (w : World) → (encode_at i n w).world.chain ≡ w.chain
-encode-chain (Inline.At x) n w = refl
-encode-chain Inline.Large n w = alloc-chain w.setup.costs.int (Object.Int n) w
+encode-chain : (i : Option Word) (n : ℕ) (w : World) → (encode_at i n w).world.chain ≡ w.chain
+encode-chain (Some x) n w = refl
+encode-chain None n w = alloc-chain w.setup.costs.int (Object.Int n) w
 
-key-at-chain : (n : ℕ) (w : World) (a : WordOr) → (key_at n w a).world.chain ≡ w.chain
-key-at-chain n w (WordOr.Word k) = refl
-key-at-chain n w (WordOr.Refused f) = refl
+key-at-chain : (n : ℕ) (w : World) (a : Result ℕ Fault) → (key_at n w a).world.chain ≡ w.chain
+key-at-chain n w (Result.Ok k) = refl
+key-at-chain n w (Err f) = refl
 
 pub key-chain : (largest : ℕ) (w : World) → (auto_key largest w).world.chain ≡ w.chain
 unfolding auto_key
 key-chain largest w = go (next_key largest)
   where
-    go : (x : Exact) → (key_exact x w).world.chain ≡ w.chain
-    go (Exact.Fits n) = key-at-chain n (encode_int n w).world (encode_int n w).answer ∙ encode-chain (inline_of (of_bits 63 n)) n w
-    go Exact.Over = refl
+    go : (x : Option ℕ) → (key_exact x w).world.chain ≡ w.chain
+    go (Some n) = key-at-chain n (encode_int n w).world (encode_int n w).answer ∙ encode-chain (inline_of (of_bits 63 n)) n w
+    go None = refl
 
 pub key-sounds : (largest : ℕ) (w : World) → sound w ≡ true → sound (auto_key largest w).world ≡ true
 key-sounds largest w snd = →sound {ex = false} _ (auto-good largest w (sound→ w snd (λ z. no_false z))).sound

@@ -1,12 +1,9 @@
 -- coro.rs: exec, a suspension and its delivery, on the lent words.
-use Rattle.std.specs.Prelude.{◌≡◌, true, List, ℕ, ◌^◌, ◌≤◌, ◌<◌}
-use Rattle.lists.specs.Pick.{pick}
+use Rattle.std.specs.Prelude.{◌≡◌, true, List, ℕ, ◌^◌, ◌≤◌, ◌<◌, Result}
 use Rattle.heap.specs.declared.fault.Fault.{Fault}
 use Rattle.heap.specs.declared.object.CoroState.{CoroState}
 use Rattle.model.specs.State.{is_suspended}
-use Rattle.model.specs.Machine.{is_ok}
 use Rattle.model.specs.declared.coro.Event.{Event}
-use Rattle.model.specs.declared.coro.Suspension.{Suspension}
 use Rattle.model.specs.declared.exec.Step.{Step}
 use Rattle.model.specs.declared.machine.Driver.{Driver}
 use Rattle.memory_world.specs.Lendings.{lent}
@@ -16,12 +13,13 @@ use Rattle.memory_world.specs.declared.machine.Sizes.{Sizes}
 use Rattle.coro_end.specs.Deliver.{DriverFits}
 
 -- the driver's frame goes on, or the fault is raised there
-abbrev pub stepped_by : Fault → Step
-stepped_by f = pick (is_ok f) Step.Frame (Step.Unwind f)
+abbrev pub stepped_by : Result Unit Fault → Step
+stepped_by (Result.Ok u) = Step.Frame
+stepped_by (Result.Err f) = Step.Unwind f
 
 -- the driver of what was suspended waits in the top frame
-pub record DeliverFits (stack frames slots : List ℕ) (m : Machine) (a : Suspension) : Type 0 where
-  pub drives : (d : Driver) (e : Event) → a ≡ Suspension.Done d e → DriverFits stack frames slots m d
+pub record DeliverFits (stack frames slots : List ℕ) (m : Machine) (a : Result (Driver × Event) Fault) : Type 0 where
+  pub drives : (d : Driver) (e : Event) → a ≡ Result.Ok (d, e) → DriverFits stack frames slots m d
 
 -- a sound world in which a coroutine runs, and a pc of 32 bits
 pub record RunFits (sizes : Sizes) (stack frames chain slots saved_stack saved_frames : List ℕ) (m : Machine) (pc : ℕ) : Type 0 where

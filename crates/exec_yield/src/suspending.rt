@@ -9,20 +9,20 @@ use coro_end::deliver::deliver;
 use coro_suspend::suspend::coro_suspend;
 use heap::fault::Fault;
 use heap::object::CoroState;
-use machine_state::step::Stepped;
+use machine_state::called::Called;
 use memory_world::machine::{Machine, Sizes};
-use model::coro::{Keys, Suspension};
+use model::coro::Event;
 use model::exec::Step;
-use model::machine::Fuel;
+use model::machine::{Driver, Fuel};
 
 // After a delivery: the driver's frame goes on, or the fault is raised there.
-fn stepped_by(f: Fault) -> Step
-    ensures { result ≡ stepped_by f }
+fn stepped_by(r: Result<(), Fault>) -> Step
+    ensures { result ≡ stepped_by r }
 {
-    if f.number() == 0 {
-        return Step::Frame;
+    match r {
+        Ok(()) => Step::Frame,
+        Err(f) => Step::Unwind(f),
     }
-    Step::Unwind(f)
 }
 
 // The driver gets what the suspended coroutine hands on.
@@ -32,28 +32,28 @@ pub(crate) fn deliver_all(
     slots: &mut [u64],
     m: Machine,
     fuel: Fuel,
-    a: Suspension,
-) -> Stepped
+    a: Result<(Driver, Event), Fault>,
+) -> Called<Step>
     requires { DeliverFits stack.old frames.old slots.old m a }
-    ensures { every (λ sizes. Met any sizes (λ w. deliver_all w a) (top_table (of_mut stack) (of_mut frames) (of_mut slots)) (with m fuel) (with result.machine result.fuel) result.step) }
+    ensures { every (λ sizes. Met any sizes (λ w. deliver_all w a) (top_table (of_mut stack) (of_mut frames) (of_mut slots)) (with m fuel) (with result.machine result.fuel) result.answer) }
 {
     match a {
-        Suspension::Done { driver, event } => {
+        Ok((driver, event)) => {
             let did = deliver(stack, frames, slots, m, fuel, driver, event);
             let n = did.machine;
             let f = did.fuel;
             let answer = did.answer;
             let step = stepped_by(answer);
-            Stepped {
+            Called {
                 machine: n,
                 fuel: f,
-                step,
+                answer: step,
             }
         }
-        Suspension::Refused(f) => Stepped {
+        Err(f) => Called {
             machine: m,
             fuel,
-            step: Step::Fault(f),
+            answer: Step::Fault(f),
         },
     }
 }
@@ -73,10 +73,10 @@ pub(crate) fn suspend(
     state: CoroState,
     dst: u64,
     payload: u64,
-    keys: Keys,
-) -> Stepped
+    keys: Option<(u64, u64)>,
+) -> Called<Step>
     requires { SuspendFits sizes stack.old frames.old chain.old slots.old saved_stack.old saved_frames.old m pc state }
-    ensures { Met if_sound sizes (suspend pc state dst payload keys) (six (of_mut stack) (of_mut frames) (of_mut chain) (of_mut slots) (of_mut saved_stack) (of_mut saved_frames)) (with m fuel) (with result.machine result.fuel) result.step }
+    ensures { Met if_sound sizes (suspend pc state dst payload keys) (six (of_mut stack) (of_mut frames) (of_mut chain) (of_mut slots) (of_mut saved_stack) (of_mut saved_frames)) (with m fuel) (with result.machine result.fuel) result.answer }
 {
     machine_state::frame::store_pc(frames, m, pc);
     let did = coro_suspend(

@@ -11,13 +11,11 @@ ghost use Rattle.memory_world.specs.Contract.{Met, Reads, every, if_sound, only,
 use crate::suspending::suspend;
 use coro_create::key::auto_key;
 use heap::fault::Fault;
-use heap::heap::CoroPlace;
 use heap::int::MINUS_ONE;
 use heap::object::CoroState;
-use heap::value::{Opt, Word};
-use machine_state::step::Stepped;
+use heap::value::Word;
+use machine_state::called::Called;
 use memory_world::machine::{Machine, Sizes};
-use model::coro::{AutoKey, Keys};
 use model::exec::Step;
 use model::machine::Fuel;
 
@@ -27,8 +25,8 @@ fn largest_in(slots: &[u64], m: Machine, v: u64) -> u64
     ensures { every (λ sizes. Reads sizes (λ w. largest_in (coro w v)) (table (of_ref slots)) (only m) result) }
 {
     match heap::heap::coro_place(slots, m.count, Word(v)) {
-        CoroPlace::Not(_) => MINUS_ONE,
-        CoroPlace::At(i) => {
+        Err(_) => MINUS_ONE,
+        Ok(i) => {
             let c = heap::slot::coro_at(slots, i);
             c.largest
         }
@@ -36,12 +34,12 @@ fn largest_in(slots: &[u64], m: Machine, v: u64) -> u64
 }
 
 // 01: "raises the largest if the key is a greater integer"
-fn larger_of(largest: u64, n: Opt) -> u64
+fn larger_of(largest: u64, n: Option<u64>) -> u64
     ensures { result ≡ larger_of largest n }
 {
     match n {
-        Opt::None => largest,
-        Opt::Some(k) => {
+        None => largest,
+        Some(k) => {
             if heap::int::less(largest, k) {
                 return k;
             }
@@ -51,7 +49,7 @@ fn larger_of(largest: u64, n: Opt) -> u64
 }
 
 // conv.rs: dyn_int, the integer that a word is or names.
-fn dyn_int(slots: &[u64], m: Machine, v: u64) -> Opt
+fn dyn_int(slots: &[u64], m: Machine, v: u64) -> Option<u64>
     requires { TableFits slots.now m.count }
     ensures { every (λ sizes. Reads sizes (λ w. dyn_int w v) (table (of_ref slots)) (only m) result) }
 {
@@ -72,15 +70,15 @@ pub fn coro_await(
     pc: u64,
     dst: u64,
     src: u64,
-) -> Stepped
+) -> Called<Step>
     requires { YieldFits sizes stack.old frames.old chain.old slots.old saved_stack.old saved_frames.old m pc src }
-    ensures { Met if_sound sizes (await pc dst src) (six (of_mut stack) (of_mut frames) (of_mut chain) (of_mut slots) (of_mut saved_stack) (of_mut saved_frames)) (with m fuel) (with result.machine result.fuel) result.step }
+    ensures { Met if_sound sizes (await pc dst src) (six (of_mut stack) (of_mut frames) (of_mut chain) (of_mut slots) (of_mut saved_stack) (of_mut saved_frames)) (with m fuel) (with result.machine result.fuel) result.answer }
 {
     if m.active == 0 {
-        return Stepped {
+        return Called {
             machine: m,
             fuel,
-            step: Step::Fault(Fault::CannotSuspend),
+            answer: Step::Fault(Fault::CannotSuspend),
         };
     }
     let payload = memory_tables::stack::reg(stack, frames, m.height, m.depth, src as usize);
@@ -99,19 +97,19 @@ pub fn coro_await(
         state,
         dst,
         payload,
-        Keys::Keep,
+        None,
     )
 }
 
 // The key and the largest key that a YieldKv leaves.
-fn keyed(slots: &[u64], m: Machine, v: u64, key: u64) -> Keys
+fn keyed(slots: &[u64], m: Machine, v: u64, key: u64) -> Option<(u64, u64)>
     requires { TableFits slots.now m.count }
     ensures { every (λ sizes. Reads sizes (keys_for v key) (table (of_ref slots)) (only m) result) }
 {
     let n = dyn_int(slots, m, key);
     let so_far = largest_in(slots, m, v);
     let largest = larger_of(so_far, n);
-    Keys::Set { key, largest }
+    Some((key, largest))
 }
 
 // coro.rs: exec, YieldKv.
@@ -129,15 +127,15 @@ pub fn yield_kv(
     dst: u64,
     src: u64,
     key: u64,
-) -> Stepped
+) -> Called<Step>
     requires { YieldKvFits sizes stack.old frames.old chain.old slots.old saved_stack.old saved_frames.old m pc src key }
-    ensures { Met if_sound sizes (yield_kv pc dst src key) (six (of_mut stack) (of_mut frames) (of_mut chain) (of_mut slots) (of_mut saved_stack) (of_mut saved_frames)) (with m fuel) (with result.machine result.fuel) result.step }
+    ensures { Met if_sound sizes (yield_kv pc dst src key) (six (of_mut stack) (of_mut frames) (of_mut chain) (of_mut slots) (of_mut saved_stack) (of_mut saved_frames)) (with m fuel) (with result.machine result.fuel) result.answer }
 {
     if m.active == 0 {
-        return Stepped {
+        return Called {
             machine: m,
             fuel,
-            step: Step::Fault(Fault::CannotSuspend),
+            answer: Step::Fault(Fault::CannotSuspend),
         };
     }
     let payload = memory_tables::stack::reg(stack, frames, m.height, m.depth, src as usize);
@@ -177,13 +175,13 @@ pub(crate) fn yield_key(
     pc: u64,
     dst: u64,
     payload: u64,
-    a: AutoKey,
-) -> Stepped
+    a: Result<(u64, u64), Fault>,
+) -> Called<Step>
     requires { RunFits sizes stack.old frames.old chain.old slots.old saved_stack.old saved_frames.old m pc }
-    ensures { Met if_sound sizes (λ w. yield_key pc dst payload w a) (six (of_mut stack) (of_mut frames) (of_mut chain) (of_mut slots) (of_mut saved_stack) (of_mut saved_frames)) (with m fuel) (with result.machine result.fuel) result.step }
+    ensures { Met if_sound sizes (λ w. yield_key pc dst payload w a) (six (of_mut stack) (of_mut frames) (of_mut chain) (of_mut slots) (of_mut saved_stack) (of_mut saved_frames)) (with m fuel) (with result.machine result.fuel) result.answer }
 {
     match a {
-        AutoKey::Key { key, largest } => {
+        Ok((key, largest)) => {
             let state = CoroState::Yielded;
             suspend(
                 stack,
@@ -199,13 +197,13 @@ pub(crate) fn yield_key(
                 state,
                 dst,
                 payload,
-                Keys::Set { key, largest },
+                Some((key, largest)),
             )
         }
-        AutoKey::Refused(f) => Stepped {
+        Err(f) => Called {
             machine: m,
             fuel,
-            step: Step::Fault(f),
+            answer: Step::Fault(f),
         },
     }
 }
@@ -224,15 +222,15 @@ pub fn coro_yield(
     pc: u64,
     dst: u64,
     src: u64,
-) -> Stepped
+) -> Called<Step>
     requires { YieldFits sizes stack.old frames.old chain.old slots.old saved_stack.old saved_frames.old m pc src }
-    ensures { Met if_sound sizes (yield pc dst src) (six (of_mut stack) (of_mut frames) (of_mut chain) (of_mut slots) (of_mut saved_stack) (of_mut saved_frames)) (with m fuel) (with result.machine result.fuel) result.step }
+    ensures { Met if_sound sizes (yield pc dst src) (six (of_mut stack) (of_mut frames) (of_mut chain) (of_mut slots) (of_mut saved_stack) (of_mut saved_frames)) (with m fuel) (with result.machine result.fuel) result.answer }
 {
     if m.active == 0 {
-        return Stepped {
+        return Called {
             machine: m,
             fuel,
-            step: Step::Fault(Fault::CannotSuspend),
+            answer: Step::Fault(Fault::CannotSuspend),
         };
     }
     let payload = memory_tables::stack::reg(stack, frames, m.height, m.depth, src as usize);

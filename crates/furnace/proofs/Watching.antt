@@ -1,5 +1,6 @@
 -- What is seen, noted and counted, case by case. Assumes nothing.
 use Rattle.std.proofs.Common.{◌≡◌, ℕ, suc, ◌+◌, ◌-◌, ◌%◌, ◌^◌, ◌<◌, ◌≤◌, Bool, true, false, not, ◌&&◌, eqb, List, [], ◌∷◌, length, get_or, take, drop, sym, refl, ap, ◌∙◌, ap₂, le-ltb, lt-ltb, eq-eqb, ne_eqb, le-leb}
+use Rattle.std.specs.Prelude.{Option, None, Some, is_some}
 use borrow.Author.Tests.{lt-leb, not-true, not-false}
 use types.Run.{OneOf, miss}
 use denote.Enum.Declared.{tag_of}
@@ -14,10 +15,9 @@ use Rattle.memory_world.specs.declared.machine.Machine.{Machine}
 use Rattle.memory_tables.proofs.Padded.{span}
 use Rattle.memory_calls.specs.Codes.{same}
 use Rattle.furnace.specs.declared.watch.Part.{Part}
-use Rattle.furnace.specs.declared.watch.Sent.{Sent}
 use Rattle.furnace.specs.declared.note.Seen.{Seen}
 use Rattle.furnace.specs.declared.note.Count.{Count}
-use Rattle.furnace.specs.Watch.{coro_in, floor_in, owner_in, top_base, own_base, part_of, no_sent, sent_by, arriving, note_of, note_fits, frames_fit, note, note_frames, noted_at, noted, at_most, noted_words, sent_to, one_more, frames_back, is_back, entering, counted}
+use Rattle.furnace.specs.Watch.{coro_in, floor_in, owner_in, top_base, own_base, part_of, sent_by, arriving, note_of, note_fits, frames_fit, note, note_frames, noted_at, noted, at_most, noted_words, sent_to, one_more, frames_back, is_back, entering, counted}
 use Rattle.furnace.specs.contracts.watch.Part as Part'
 use Rattle.furnace.proofs.Words.{clamped}
 
@@ -71,22 +71,22 @@ no_part Op.StopRun h = refl
 no_part Op.Look h = refl
 
 module _ (stack frames : List ℕ) (m : Machine) where
-  pub sends-word : (p : Part) (r b x : ℕ) → p ≡ Part.Sends r → b ≡ top_base frames m → x ≡ get_or stack (b + r) 0 → record { is = true; word = x } ≡ sent_by stack frames m p
+  pub sends-word : (p : Part) (r b x : ℕ) → p ≡ Part.Sends r → b ≡ top_base frames m → x ≡ get_or stack (b + r) 0 → Some x ≡ sent_by stack frames m p
   sends-word p r b x e f g =
       let h = g ∙ ap (λ (y : ℕ). get_or stack (y + r) 0) f in
-      (λ k. record { is = true; word = h k }) ∙ ap (sent_by stack frames m) (sym e)
+      ap Some h ∙ ap (sent_by stack frames m) (sym e)
 
-  pub no-sends : (p : Part) → OneOf (0 ∷ 3 ∷ []) (tag_of Part'.the_type p) → no_sent ≡ sent_by stack frames m p
+  pub no-sends : (p : Part) → OneOf (0 ∷ 3 ∷ []) (tag_of Part'.the_type p) → None ≡ sent_by stack frames m p
   no-sends (Part.Waits r pc) h = refl
   no-sends (Part.Sends r) h = absurd (miss (0 ∷ 3 ∷ []) 1 tt h)
   no-sends (Part.Hands x) h = absurd (miss (0 ∷ 3 ∷ []) 2 tt h)
   no-sends Part.Neither h = refl
 
-pub arrives-whole : (n : ℕ) (s : Sent) → n ≡ 0 → s ≡ arriving n s
-arrives-whole n s h = sym (ap (λ (b : Bool). pick b s no_sent) (eq-eqb n 0 h) ∙ pick_true s no_sent)
+pub arrives-whole : (n : ℕ) (s : Option ℕ) → n ≡ 0 → s ≡ arriving n s
+arrives-whole n s h = sym (ap (λ (b : Bool). pick b s None) (eq-eqb n 0 h) ∙ pick_true s None)
 
-pub arrives-none : (n : ℕ) (s : Sent) → (n ≡ 0 → ⊥) → no_sent ≡ arriving n s
-arrives-none n s h = sym (ap (λ (b : Bool). pick b s no_sent) (ne_eqb n 0 h) ∙ pick-false s no_sent)
+pub arrives-none : (n : ℕ) (s : Option ℕ) → (n ≡ 0 → ⊥) → None ≡ arriving n s
+arrives-none n s h = sym (ap (λ (b : Bool). pick b s None) (ne_eqb n 0 h) ∙ pick-false s None)
 
 -- ---- a note of who runs
 
@@ -145,19 +145,19 @@ module _ (stack frames chain : List ℕ) (m : Machine) where
 
   -- ---- a wake
 
-  pub woken-is : (s : Sent) (notes : List ℕ) (at n : ℕ) (c : Count) (own e start low : ℕ) (words bodies b : Bool) → n ≡ noted_words notes at → own ≡ own_base frames chain m
+  pub woken-is : (s : Option ℕ) (notes : List ℕ) (at n : ℕ) (c : Count) (own e start low : ℕ) (words bodies b : Bool) → n ≡ noted_words notes at → own ≡ own_base frames chain m
       → e ≡ at_most (length stack) m.height → start ≡ at_most e own → low ≡ floor_in chain (m.active - 1)
-      → words ≡ same (sent_to s.is (get_or notes (at + 1) 0) s.word (take (at + 3 + n - (at + 3)) (drop (at + 3) notes))) (take (e - start) (drop start stack))
-      → bodies ≡ frames_back frames low m.depth notes at s.is (get_or notes (at + 2) 0) own → b ≡ words && bodies → (d : Count) → d ≡ one_more c b
+      → words ≡ same (sent_to s (get_or notes (at + 1) 0) (take (at + 3 + n - (at + 3)) (drop (at + 3) notes))) (take (e - start) (drop start stack))
+      → bodies ≡ frames_back frames low m.depth notes at (is_some s) (get_or notes (at + 2) 0) own → b ≡ words && bodies → (d : Count) → d ≡ one_more c b
       → d ≡ one_more c (is_back stack frames chain m s notes at)
   woken-is s notes at n c own e start low words bodies b many o p q f w g both d is =
       let back = clamped stack own m.height start e p q ∙ ap (λ (x : ℕ). part x (m.height - x) stack) o in
       let held = ap (λ (k : ℕ). take k (drop (at + 3) notes)) (span (at + 3) n) ∙ ap (λ (k : ℕ). part (at + 3) k notes) many in
-      let one = w ∙ ap₂ (λ (x y : List ℕ). same (sent_to s.is (get_or notes (at + 1) 0) s.word x) y) held back in
-      let two = g ∙ ap₂ (λ (x y : ℕ). frames_back frames x m.depth notes at s.is (get_or notes (at + 2) 0) y) f o in
+      let one = w ∙ ap₂ (λ (x y : List ℕ). same (sent_to s (get_or notes (at + 1) 0) x) y) held back in
+      let two = g ∙ ap₂ (λ (x y : ℕ). frames_back frames x m.depth notes at (is_some s) (get_or notes (at + 2) 0) y) f o in
       is ∙ ap (one_more c) (both ∙ ap₂ ◌&&◌ one two)
 
-  module _ (s : Sent) (notes : List ℕ) (c : Count) (at n : ℕ) (is : at ≡ note_of (coro_in chain (m.active - 1))) (e : n ≡ noted_words notes at) where
+  module _ (s : Option ℕ) (notes : List ℕ) (c : Count) (at n : ℕ) (is : at ≡ note_of (coro_in chain (m.active - 1))) (e : n ≡ noted_words notes at) where
     abbrev woken : ℕ → Count
     woken x = one_more c (is_back stack frames chain m s notes x)
 
@@ -174,11 +174,11 @@ module _ (stack frames chain : List ℕ) (m : Machine) where
     abbrev by : ℕ → Count
     by n = entering stack frames chain m (arriving n was.sent) notes c
 
-    pub enters : (n : ℕ) (s : Sent) → n ≡ number_of a → was.active < m.active → s ≡ arriving n was.sent → (d : Count) → d ≡ entering stack frames chain m s notes c
+    pub enters : (n : ℕ) (s : Option ℕ) → n ≡ number_of a → was.active < m.active → s ≡ arriving n was.sent → (d : Count) → d ≡ entering stack frames chain m s notes c
         → d ≡ counted stack frames chain m (number_of a) was notes c
     enters n s e h f d is =
         is
-        ∙ ap (λ (x : Sent). entering stack frames chain m x notes c) f
+        ∙ ap (λ (x : Option ℕ). entering stack frames chain m x notes c) f
         ∙ ap by e
         ∙ sym (ap (λ (b : Bool). pick b (by (number_of a)) c) (lt-ltb was.active m.active h) ∙ pick_true (by (number_of a)) c)
 

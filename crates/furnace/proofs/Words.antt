@@ -1,12 +1,15 @@
 -- Words beyond the end of a list, and words that are compared one by one. Assumes nothing.
 use Rattle.std.proofs.Common.{◌≡◌, ℕ, suc, ◌+◌, ◌-◌, ◌<◌, ◌≤◌, Bool, true, false, not, ◌&&◌, eqb, ltb, leb, List, [], ◌∷◌, length, get_or, take, drop, set, sym, refl, ap, ◌∙◌, subst, ap₂, add-one, arith, length-drop, length-set, drop_of_length-le, take_all, drop-cons, get_or-set_other, get_or-set_same, ltb-false, ltb-true, le-ltb, lt-ltb, eq-eqb, ne_eqb, le-leb, leb-false, leb-true}
+use Rattle.std.specs.Prelude.{Option, None, Some}
 use borrow.Author.Tests.{lt-leb}
 use lib.ListN.{get_or-eq_default}
 use lib.Seq.{take-nil}
+use Rattle.std.specs.Prelude.{min}
+use Rattle.std.proofs.Math.Nat.{min-eq_left, min-eq_right}
 use Rattle.lists.specs.Pick.{pick, pick_true, pick-false}
 use Rattle.lists.specs.Parts.{part}
 use Rattle.heap.specs.Word.{nil}
-use Rattle.claims_sound.proofs.Tests.{no_false, and_left, and_right}
+use Rattle.claims_sound.proofs.Tests.{and_left, and_right}
 use Rattle.memory_calls.specs.Codes.{same}
 use Rattle.furnace.specs.Watch.{coro_in, innermost, at_most, note_of, note_fits, sent_to, all_equal}
 
@@ -15,21 +18,19 @@ beyond xs n h = sym (get_or-eq_default xs 0 h)
 
 -- ---- the word sent
 
-pub sent-long : (b : Bool) (p x : ℕ) (xs : List ℕ) → length (sent_to b p x xs) ≡ length xs
-sent-long true p x xs = length-set xs p x
-sent-long false p x xs = refl
+pub sent-long : (s : Option ℕ) (p : ℕ) (xs : List ℕ) → length (sent_to s p xs) ≡ length xs
+sent-long (Some x) p xs = length-set xs p x
+sent-long None p xs = refl
 
-pub sent-there : (b : Bool) (p x i : ℕ) (xs : List ℕ) → not b ≡ false → i ≡ p → i < length xs → x ≡ get_or (sent_to b p x xs) i 0
-sent-there true p x i xs h e k = sym (ap (λ (n : ℕ). get_or (set xs n x) i 0) (sym e) ∙ get_or-set_same xs i x 0 k)
-sent-there false p x i xs h e k = no_false (sym h)
+pub sent-there : (s : Option ℕ) (p x i : ℕ) (xs : List ℕ) → s ≡ Some x → i ≡ p → i < length xs → x ≡ get_or (sent_to s p xs) i 0
+sent-there s p x i xs h e k = sym (ap (λ (o : Option ℕ). get_or (sent_to o p xs) i 0) h ∙ ap (λ (n : ℕ). get_or (set xs n x) i 0) (sym e) ∙ get_or-set_same xs i x 0 k)
 
-pub sent-elsewhere : (b : Bool) (p x i : ℕ) (xs : List ℕ) → not b ≡ false → (i ≡ p → ⊥) → get_or xs i 0 ≡ get_or (sent_to b p x xs) i 0
-sent-elsewhere true p x i xs h n = sym (get_or-set_other xs p i x 0 n)
-sent-elsewhere false p x i xs h n = no_false (sym h)
+pub sent-elsewhere : (s : Option ℕ) (p i : ℕ) (xs : List ℕ) → (i ≡ p → ⊥) → get_or xs i 0 ≡ get_or (sent_to s p xs) i 0
+sent-elsewhere (Some x) p i xs n = sym (get_or-set_other xs p i x 0 n)
+sent-elsewhere None p i xs n = refl
 
-pub sent-none : (b : Bool) (p x i : ℕ) (xs : List ℕ) → not b ≡ true → get_or xs i 0 ≡ get_or (sent_to b p x xs) i 0
-sent-none true p x i xs h = no_false h
-sent-none false p x i xs h = refl
+pub sent-none : (s : Option ℕ) (p i : ℕ) (xs : List ℕ) → s ≡ None → get_or xs i 0 ≡ get_or (sent_to s p xs) i 0
+sent-none s p i xs h = ap (λ (o : Option ℕ). get_or (sent_to o p xs) i 0) (sym h)
 
 -- ---- the same words, one by one
 
@@ -58,14 +59,11 @@ all_same xs ys i h k e = sym (e ∙ ap₂ same (drop_of_length-le xs h) (drop_of
 
 -- ---- all wakes equal
 
-pub none-woken : (w e : ℕ) → w ≡ 0 → false ≡ all_equal w e
+pub none-woken : (w e : ℕ) → w ≡ 0 → not (eqb w 0) ≡ all_equal w e
 none-woken w e h = rw h
 
-pub some-differ : (w e : ℕ) → (w ≡ 0 → ⊥) → (e ≡ w → ⊥) → false ≡ all_equal w e
-some-differ w e h n = rw (ne_eqb w 0 h, ne_eqb e w n)
-
-pub each-equal : (w e : ℕ) → (w ≡ 0 → ⊥) → e ≡ w → true ≡ all_equal w e
-each-equal w e h k = rw (ne_eqb w 0 h, eq-eqb e w k)
+pub some-woken : (w e : ℕ) → (w ≡ 0 → ⊥) → eqb e w ≡ all_equal w e
+some-woken w e h = rw (ne_eqb w 0 h)
 
 -- ---- the innermost running coroutine
 
@@ -82,6 +80,12 @@ at-most-less most n h = sym (ap (λ (b : Bool). pick b n most) (le-leb n most h)
 
 pub at-most-more : (most n : ℕ) → most < n → most ≡ at_most most n
 at-most-more most n h = sym (ap (λ (b : Bool). pick b n most) (lt-leb n most h) ∙ pick-false n most)
+
+pub at-most-min : (most n : ℕ) → min n most ≡ at_most most n
+at-most-min most n = go (leb n most) refl where
+  go : (b : Bool) → leb n most ≡ b → min n most ≡ at_most most n
+  go true e = let h = leb-true n most e in min-eq_left h ∙ at-most-less most n h
+  go false e = let h = leb-false n most e in let k : most ≤ n = omega (arith, h) in min-eq_right k ∙ at-most-more most n h
 
 pub at-most : (most n : ℕ) → at_most most n ≤ most
 at-most most n = go (leb n most) refl where

@@ -1,13 +1,11 @@
 -- The story: a furnace line with two zones, a sensor and a recipe, as a list of calls.
-use Rattle.std.specs.Prelude.{ℕ, ◌+◌, false, List, [], ◌∷◌, ◌++◌}
+use Rattle.std.specs.Prelude.{ℕ, ◌+◌, false, List, [], ◌∷◌, ◌++◌, None}
 use Rattle.heap.specs.Word.{nil}
 use Rattle.heap.specs.declared.fault.Fault.{Fault}
 use Rattle.heap.specs.declared.heap.ResultKind.{ResultKind}
-use Rattle.heap.specs.declared.value.Opt.{Opt}
 use Rattle.model.specs.Program.{Func, Setup}
 use Rattle.model.specs.Example.{plain}
 use Rattle.model.specs.declared.machine.Cont.{Cont}
-use Rattle.model.specs.declared.call.OptPc.{OptPc}
 use Rattle.model.specs.declared.call.Op.{Op}
 use Rattle.model.specs.declared.machine.Fuel.{Fuel}
 use Rattle.memory_world.specs.declared.machine.Machine.{Machine}
@@ -25,7 +23,7 @@ furnace =
     record {
       limits = record { depth = 8; stack = 40; rows = 4; slots = 16; memory = 65536 };
       costs = record { frame = 32; coro = 104; object = 160; int = 56; error = 56; iter = 112 };
-      hook = Opt.None;
+      hook = None;
       functions = plain 8 ∷ heat ∷ plain 3 ∷ plain 3 ∷ plain 4 ∷ recipe ∷ [];
     }
 
@@ -46,7 +44,7 @@ blank =
     }
 
 abbrev pub empty : Fuel
-empty = record { fuel = 0; bank = Opt.None; ready = false }
+empty = record { fuel = 0; bank = None; ready = false }
 
 -- the words of what is made, in the slots after the six functions; the last is the iterator over the sensor
 abbrev pub zone1 : ℕ
@@ -94,7 +92,7 @@ surveying =
 -- The survey drops the recipe, which banks the fuel; the charge of its next instruction starts the cleanup, whose block shuts the valve.
 abbrev pub dropping : List Op
 dropping =
-    Op.HandOver dropped ∷ Op.CoroStatus 2 3 0 ∷ Op.Unwind (Fault.Throw nil) OptPc.None ∷ Op.PutWord 1 (int 0) ∷ returns 0
+    Op.HandOver dropped ∷ Op.CoroStatus 2 3 0 ∷ Op.Unwind (Fault.Throw nil) None ∷ Op.PutWord 1 (int 0) ∷ returns 0
     ∷ Op.CoroStatus 2 3 0 ∷ returns 1 ∷ []
 
 -- The line wakes zone 1, which runs away until the fuel is used up (10); the host stops the run.

@@ -1,5 +1,5 @@
 -- What an observer sees in a machine's words before and after each call, and when a sleeper has come back.
-use Rattle.std.specs.Prelude.{ℕ, zero, suc, ◌+◌, ◌-◌, ◌*◌, ◌/◌, ◌%◌, ◌^◌, Bool, true, false, not, ◌&&◌, List, [], ◌∷◌, length, ◌==◌, nat_le, nat_lt, slice_index, slice_set}
+use Rattle.std.specs.Prelude.{ℕ, zero, suc, ◌+◌, ◌-◌, ◌*◌, ◌/◌, ◌%◌, ◌^◌, Bool, not, ◌&&◌, List, [], ◌∷◌, length, ◌==◌, nat_le, nat_lt, slice_index, slice_set, Option, None, Some, is_some}
 use Rattle.lists.specs.Pick.{pick}
 use Rattle.lists.specs.Parts.{part, splice}
 use Rattle.lists.specs.Tests.{all_below}
@@ -11,7 +11,6 @@ use Rattle.memory_world.specs.declared.machine.Machine.{Machine}
 use Rattle.memory_calls.specs.Codes.{same}
 use Rattle.memory_step.specs.Step.{MemoryState, Left, step_words}
 use Rattle.furnace.specs.declared.watch.Part.{Part}
-use Rattle.furnace.specs.declared.watch.Sent.{Sent}
 use Rattle.furnace.specs.declared.note.Seen.{Seen}
 use Rattle.furnace.specs.declared.note.Count.{Count}
 
@@ -78,18 +77,15 @@ part_of Op.StopRun = Part.Neither
 part_of Op.Look = Part.Neither
 
 -- the word that it sends
-abbrev pub no_sent : Sent
-no_sent = record { is = false; word = 0 }
-
-abbrev pub sent_by : List ℕ → List ℕ → Machine → Part → Sent
-sent_by stack frames m (Part.Waits r pc) = no_sent
-sent_by stack frames m (Part.Sends r) = record { is = true; word = slice_index stack (top_base frames m + r) }
-sent_by stack frames m (Part.Hands x) = record { is = true; word = x }
-sent_by stack frames m Part.Neither = no_sent
+abbrev pub sent_by : List ℕ → List ℕ → Machine → Part → Option ℕ
+sent_by stack frames m (Part.Waits r pc) = None
+sent_by stack frames m (Part.Sends r) = Some (slice_index stack (top_base frames m + r))
+sent_by stack frames m (Part.Hands x) = Some x
+sent_by stack frames m Part.Neither = None
 
 -- where a cleanup was started in its place nothing is sent
-abbrev pub arriving : ℕ → Sent → Sent
-arriving n s = pick (n == 0) s no_sent
+abbrev pub arriving : ℕ → Option ℕ → Option ℕ
+arriving n s = pick (n == 0) s None
 
 -- ---- before a call
 
@@ -150,9 +146,9 @@ abbrev pub held_in : List ℕ → ℕ → List ℕ
 held_in notes at = part (at + 3) (noted_words notes at) notes
 
 -- what a sleeper held, with the word sent, if one is, in the place that waits
-abbrev pub sent_to : Bool → ℕ → ℕ → List ℕ → List ℕ
-sent_to true place x held = slice_set held place x
-sent_to false place x held = held
+abbrev pub sent_to : Option ℕ → ℕ → List ℕ → List ℕ
+sent_to (Some x) place held = slice_set held place x
+sent_to None place held = held
 
 -- word p of the frames again, which was `was` and is `is`: a base as far above the sleeper's own as it was; the top one's pc one step further
 -- where a word is sent; any other the same
@@ -178,13 +174,13 @@ abbrev pub one_more : Count → Bool → Count
 one_more c equal = record { wakes = (c.wakes + 1) % 2 ^ 64; equal = pick equal ((c.equal + 1) % 2 ^ 64) c.equal }
 
 -- whether the coroutine that runs has again the words and the frames of the note at `at`
-abbrev pub is_back : List ℕ → List ℕ → List ℕ → Machine → Sent → List ℕ → ℕ → Bool
+abbrev pub is_back : List ℕ → List ℕ → List ℕ → Machine → Option ℕ → List ℕ → ℕ → Bool
 is_back stack frames chain m s notes at =
-    same (sent_to s.is (slice_index notes (at + 1)) s.word (held_in notes at)) (own_words stack frames chain m)
-    && frames_back frames (floor_in chain (m.active - 1)) m.depth notes at s.is (slice_index notes (at + 2)) (own_base frames chain m)
+    same (sent_to s (slice_index notes (at + 1)) (held_in notes at)) (own_words stack frames chain m)
+    && frames_back frames (floor_in chain (m.active - 1)) m.depth notes at (is_some s) (slice_index notes (at + 2)) (own_base frames chain m)
 
 -- the coroutine that runs now was entered: if it has a note it was woken, and is to have again what it held
-abbrev pub entering : List ℕ → List ℕ → List ℕ → Machine → Sent → List ℕ → Count → Count
+abbrev pub entering : List ℕ → List ℕ → List ℕ → Machine → Option ℕ → List ℕ → Count → Count
 entering stack frames chain m s notes c =
     let at = note_of (coro_in chain (m.active - 1)) in
     pick (noted_words notes at == 0) c (one_more c (is_back stack frames chain m s notes at))

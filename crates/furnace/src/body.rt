@@ -4,7 +4,7 @@ ghost use Rattle.lists.specs.Parts.{part, splice};
 ghost use Rattle.furnace.specs.Watch.{frames_fit, note_frames, noted_frames, word_back, frames_back};
 
 use crate::note::{BODIES, FRAMES, MOST_FRAMES};
-use crate::watch::{above, at_most, field};
+use crate::watch::{at_most, field};
 use heap::value::BITS32;
 use memory_tables::frame::{BASE, FRAME_WIDTH, PC};
 
@@ -18,10 +18,7 @@ pub(crate) fn fit(frames: &[u64], floor: usize, depth: usize) -> bool
     if depth <= floor {
         return false;
     }
-    if MOST_FRAMES < depth - floor {
-        return false;
-    }
-    depth <= frames.len() / FRAME_WIDTH
+    depth - floor <= MOST_FRAMES && depth <= frames.len() / FRAME_WIDTH
 }
 
 // Word i replaced.
@@ -70,12 +67,12 @@ pub(crate) fn word_back(
     ensures { result ≡ word_back sent n from to p was is }
 {
     if p % FRAME_WIDTH == BASE {
-        return above(is as usize, to) == above(was as usize, from);
+        return (is as usize).saturating_sub(to) == (was as usize).saturating_sub(from);
     }
     if !sent {
         return is == was;
     }
-    let top = above(n * FRAME_WIDTH, FROM_PC);
+    let top = (n * FRAME_WIDTH).saturating_sub(FROM_PC);
     if p != top {
         return is == was;
     }
@@ -97,17 +94,15 @@ pub(crate) fn back(
     ensures { result ≡ frames_back frames.now floor depth notes.now at sent from to }
 {
     let n = at_most(MOST_FRAMES, notes[at + FRAMES] as usize);
-    if above(depth, floor) != n {
+    if depth.saturating_sub(floor) != n {
         return false;
     }
-    let mut p = 0;
-    while p < n * FRAME_WIDTH {
+    for p in 0..n * FRAME_WIDTH {
         let was = notes[at + BODIES + p];
         let is = field(frames, floor, p);
         if !word_back(sent, n, from, to, p, was, is) {
             return false;
         }
-        p += 1;
     }
     true
 }

@@ -6,7 +6,7 @@ ghost use Rattle.outer_call.specs.State.{nine, state, gives};
 
 use machine_state::called::Called;
 use memory_world::machine::Machine;
-use model::call::Op;
+use model::call::{Answer, Op};
 use model::machine::Fuel;
 
 pub(crate) fn call(
@@ -22,7 +22,7 @@ pub(crate) fn call(
     m: Machine,
     fuel: Fuel,
     op: Op,
-) -> Called
+) -> Called<Answer>
     ensures { gives (nine (of_mut stack) (of_mut frames) (of_mut chain) (of_mut slots) (of_mut saved_stack) (of_mut saved_frames) (of_mut ready) (of_mut finalize) (of_ref setup) at_exit) result ≡ step_words (state (nine (of_mut stack) (of_mut frames) (of_mut chain) (of_mut slots) (of_mut saved_stack) (of_mut saved_frames) (of_mut ready) (of_mut finalize) (of_ref setup) at_entry) m fuel) op }
 {
     match op {

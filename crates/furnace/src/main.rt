@@ -21,7 +21,6 @@ ghost use Rattle.furnace.specs.Watch.{watched, watch, watches, none};
 use crate::note::Count;
 use crate::page::Page;
 use heap::slot::WIDTH;
-use heap::value::Opt;
 use memory_tables::active::ACTIVE_WIDTH;
 use memory_tables::frame::FRAME_WIDTH;
 use memory_tables::layout;
@@ -201,7 +200,7 @@ fn blank() -> Machine
 fn empty() -> Fuel
     ensures { result ≡ empty }
 {
-    let bank = Opt::None;
+    let bank = None;
     Fuel {
         fuel: 0,
         bank,
@@ -232,8 +231,7 @@ fn play(
     let mut k = m;
     let mut f = fuel;
     let mut count = Count { wakes: 0, equal: 0 };
-    let mut i = 0;
-    while i < story::CALLS {
+    for i in 0..story::CALLS {
         let op = story::call(i);
         let did = turn(
             page,
@@ -255,7 +253,6 @@ fn play(
         k = did.machine;
         f = did.fuel;
         count = did.count;
-        i += 1;
     }
     Played {
         machine: k,

@@ -3,9 +3,7 @@ ghost use Rattle.std.specs.Prelude.{◌≡◌, ◌+◌, ◌<◌, ◌≤◌, ◌&
 ghost use Rattle.furnace.specs.Watch.{part_of, seen_in, note_of, note_fits, frames_fit, note, note_frames, noted_at, noted, one_more};
 
 use crate::body;
-use crate::watch::{
-    Part, Sent, above, coroutine, floor, innermost, own_base, part_of, sends, top_base,
-};
+use crate::watch::{Part, coroutine, floor, innermost, own_base, part_of, sends, top_base};
 use memory_world::machine::Machine;
 use model::call::Op;
 
@@ -14,7 +12,7 @@ use model::call::Op;
 pub(crate) struct Seen {
     pub(crate) active: usize,
     pub(crate) coro: u64,
-    pub(crate) sent: Sent,
+    pub(crate) sent: Option<u64>,
 }
 
 // Coroutines woken, and those of them that came back with what they held.
@@ -28,11 +26,11 @@ impl Count {
     pub(crate) fn one_more(self, equal: bool) -> Count
         ensures { result ≡ one_more self equal }
     {
-        let wakes = std::num::wrapping_add_u64(self.wakes, 1);
+        let wakes = self.wakes.wrapping_add(1);
         if equal {
             return Count {
                 wakes,
-                equal: std::num::wrapping_add_u64(self.equal, 1),
+                equal: self.equal.wrapping_add(1),
             };
         }
         Count {
@@ -84,11 +82,8 @@ fn fits(stack: &[u64], own: usize, top: usize, height: usize, r: usize) -> bool
     if MOST_WORDS < n {
         return false;
     }
-    let place = above(top, own);
-    if n <= place {
-        return false;
-    }
-    r < n - place
+    let place = top.saturating_sub(own);
+    place < n && r < n - place
 }
 
 // The head of the note at `at`.
@@ -124,10 +119,7 @@ fn all_fit(
 ) -> bool
     ensures { result ≡ note_fits stack.now own top height r && frames_fit frames.now floor depth }
 {
-    if !fits(stack, own, top, height, r) {
-        return false;
-    }
-    body::fit(frames, floor, depth)
+    fits(stack, own, top, height, r) && body::fit(frames, floor, depth)
 }
 
 // What the coroutine that runs holds, where the register r of the top frame is to wait.
@@ -156,7 +148,7 @@ fn note_at(
     }
     let at = note_of(coroutine(chain, m.active - 1));
     let n = height - own;
-    let place = above(top, own) + r;
+    let place = top.saturating_sub(own) + r;
     keep(notes, at, n, place, stack, own);
     body::keep(notes, at, frames, low, depth - low, pc);
 }
@@ -168,7 +160,7 @@ fn note_own(stack: &[u64], frames: &[u64], chain: &[u64], m: Machine, p: Part, n
 {
     match p {
         Part::Waits(r, pc) => note_at(stack, frames, chain, m, r as usize, pc as u64, notes),
-        _ => return,
+        _ => {}
     }
 }
 

@@ -1,6 +1,7 @@
 // Standard output, and the first error of a write to it, after which nothing more is written.
 ghost use Rattle.std.specs.Prelude.{◌≡◌, OnOk, IfErr, None, Some};
 
+use std::fmt::Display;
 use std::io;
 use std::io::Stdout;
 
@@ -16,15 +17,10 @@ impl Page {
         Page { out, failed: None }
     }
 
-    pub(crate) fn text(&mut self, text: &[u8]) {
+    // What `write!` and `writeln!` call.
+    pub(crate) fn write_fmt<D: Display + Drop>(&mut self, text: D) {
         if self.failed.is_none() {
-            self.failed = self.out.write_all(text).err();
-        }
-    }
-
-    pub(crate) fn decimal(&mut self, n: u64) {
-        if self.failed.is_none() {
-            self.failed = self.out.print(n).err();
+            self.failed = self.out.print(text).err();
         }
     }
 

@@ -5,7 +5,7 @@ ghost use Rattle.furnace.specs.Story.{story};
 use heap::fault::Fault;
 use heap::heap::ResultKind;
 use heap::value::Word;
-use model::call::{Op, OptPc};
+use model::call::Op;
 use model::machine::Cont;
 
 // The words of the coroutines, and of the iterator over the sensor: the slots after the six functions.
@@ -216,7 +216,7 @@ pub(crate) fn call(i: usize) -> Op
         },
         40 => Op::Unwind {
             fault: Fault::Throw(Word::NIL),
-            pc: OptPc::None,
+            pc: None,
         },
         41 => Op::PutWord { reg: 1, word: INT },
         42 => Op::Finish {

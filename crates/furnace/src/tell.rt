@@ -5,15 +5,18 @@ ghost use Rattle.furnace.specs.Watch.{is_back, noted_words, one_more, entering, 
 
 use crate::note::{Count, Seen, note_of};
 use crate::page::Page;
+use crate::show::{AtHand, Bodies, Picture, Row, Value};
 use crate::watch::{
-    Part, Sent, all_equal, arrives, at_most, coroutine, field, floor, last, own_base, part_of, woke,
+    Part, all_equal, arrives, at_most, coroutine, field, floor, own_base, part_of, woke,
 };
 use crate::{body, note, show};
-use memory_calls::answer::Eight;
-use memory_calls::layout::CAUGHT;
+use heap::fault::Fault;
+use heap::value::Word;
+use memory_tables::frame::PC;
 use memory_world::machine::Machine;
 use model::call::{Answer, Op};
-use model::machine::Fuel;
+use model::exec::Step;
+use model::machine::{Fuel, Stop};
 
 // A sleeper was woken: the stack as it stands, with the registers `top` of the top frame, what it held and what came back. Its note of n words begins at `at`.
 fn woken(
@@ -23,7 +26,7 @@ fn woken(
     chain: &[u64],
     top: &[u64],
     m: Machine,
-    sent: Sent,
+    sent: Option<u64>,
     notes: &[u64],
     at: usize,
     n: usize,
@@ -41,22 +44,37 @@ fn woken(
     let place = notes[at + note::PLACE] as usize;
     let from = notes[at + note::BASE] as usize;
     let words = woke(held, sent, place, back);
-    let low = floor(chain, last(m.active));
-    let bodies = body::back(frames, low, m.depth, notes, at, sent.is, from, own);
+    let low = floor(chain, m.active.saturating_sub(1));
+    let bodies = body::back(frames, low, m.depth, notes, at, sent.is_some(), from, own);
     let equal = both(words, bodies);
-    show::number(page, b" WAKES at height ", own as u64);
-    show::number(page, b" (it slept at ", from as u64);
-    show::say(page, b")");
-    show::sent(page, sent);
-    let mark = marked(sent.is, place);
-    show::stack(page, stack, frames, chain, top, m, own, mark);
-    show::say(page, b"     held     ");
-    show::words(page, held, held.len());
-    show::noted(page, notes, at + note::FRAMES);
-    show::say(page, b"\n     came back");
-    show::words(page, back, mark);
-    show::bodies(page, frames, low, m.depth);
-    show::verdict(page, equal, sent.is);
+    let mark = sent.map(|_| place);
+    write!(page, " WAKES at height {own} (it slept at {from}), sent ");
+    match sent {
+        Some(word) => writeln!(page, "{}", Value(word)),
+        None => writeln!(page, "nothing"),
+    }
+    let picture = Picture {
+        stack,
+        frames,
+        chain,
+        top,
+        m,
+        own,
+        mark,
+    };
+    let held = Row {
+        words: held,
+        mark: None,
+    };
+    let back = Row { words: back, mark };
+    let bodies = Bodies {
+        frames,
+        floor: low,
+        depth: m.depth,
+    };
+    let verdict = show::verdict(equal, sent.is_some());
+    write!(page, "{picture}     held     {held}{}", noted(notes, at));
+    writeln!(page, "\n     came back{back}{bodies}   {verdict}");
     count.one_more(equal)
 }
 
@@ -64,18 +82,18 @@ fn woken(
 fn both(a: bool, b: bool) -> bool
     ensures { result ≡ a && b }
 {
-    if a {
-        return b;
-    }
-    false
+    a && b
 }
 
-// The place of the word that was sent; of none, if none was.
-fn marked(is: bool, place: usize) -> usize {
-    if is {
-        return place;
+// The frames of the note at `at`.
+fn noted(notes: &[u64], at: usize) -> Bodies<'_>
+    requires { at + 32 ≤ length notes.now }
+{
+    Bodies {
+        frames: &notes[at + note::BODIES..],
+        floor: 0,
+        depth: at_most(note::MOST_FRAMES, notes[at + note::FRAMES] as usize),
     }
-    show::NOWHERE
 }
 
 // A coroutine was entered: it starts, or it is woken.
@@ -86,19 +104,19 @@ fn entered(
     chain: &[u64],
     top: &[u64],
     m: Machine,
-    sent: Sent,
+    sent: Option<u64>,
     notes: &[u64],
     count: Count,
 ) -> Count
     requires { length notes.now ≡ 128 }
     ensures { result ≡ entering stack.now frames.now chain.now m sent notes.now count }
 {
-    let c = coroutine(chain, last(m.active));
+    let c = coroutine(chain, m.active.saturating_sub(1));
     let at = note_of(c);
     let n = at_most(note::MOST_WORDS, notes[at] as usize);
-    show::name(page, c);
+    write!(page, "{}", show::name(c));
     if n == 0 {
-        show::say(page, b" starts\n");
+        writeln!(page, " starts");
         return count;
     }
     woken(
@@ -112,136 +130,113 @@ fn asleep(page: &mut Page, c: u64, notes: &[u64])
 {
     let at = note_of(c);
     let n = at_most(note::MOST_WORDS, notes[at] as usize);
-    show::number(page, b" sleeps at height ", notes[at + note::BASE]);
-    show::say(page, b" and holds");
     let first = at + note::WORDS;
-    let end = first + n;
-    show::words(page, &notes[first..end], n);
-    show::noted(page, notes, at + note::FRAMES);
-    show::say(page, b"\n");
+    let held = Row {
+        words: &notes[first..first + n],
+        mark: None,
+    };
+    write!(page, " sleeps at height {}", notes[at + note::BASE]);
+    writeln!(page, " and holds{held}{}", noted(notes, at));
 }
 
 // A coroutine runs no more: it sleeps, or it has ended.
 fn left(page: &mut Page, c: u64, op: Op, notes: &[u64])
     requires { length notes.now ≡ 128 }
 {
-    show::name(page, c);
+    write!(page, "{}", show::name(c));
     match part_of(op) {
         Part::Waits(_, _) => asleep(page, c, notes),
-        _ => show::say(page, b" ends\n"),
+        _ => writeln!(page, " ends"),
     }
 }
 
-// An answer other than 0, to a call made while `coro` ran.
-fn answered(page: &mut Page, op: Op, told: Eight, coro: u64, fuel: Fuel) {
-    let n = told.0;
-    match op {
-        Op::Unwind { fault: _, pc: _ } => show::number(
+// The fault that an answer tells, if it does.
+fn fault_of(answer: Answer) -> Option<Fault> {
+    match answer {
+        Answer::Refused(fault) => Some(fault),
+        Answer::Stepped { step, .. } => match step {
+            Step::Fault(fault) | Step::Unwind(fault) => Some(fault),
+            Step::Next | Step::Frame => None,
+        },
+        Answer::Cleanup { .. } => Some(Fault::Throw(Word::NIL)),
+        Answer::Unpaid { .. } => Some(Fault::OutOfFuel),
+        _ => None,
+    }
+}
+
+// A fault, told to a call made while `coro` ran.
+fn refused(page: &mut Page, op: Op, fault: Fault, coro: u64, fuel: Fuel) {
+    let n = fault.number();
+    let runner = show::runner(coro);
+    let fuel = AtHand(fuel);
+    match (op, fault) {
+        (Op::Unwind { .. }, _) => writeln!(
             page,
-            b"the host raises what was answered: no handler may take it, and it answers ",
-            n,
+            "the host raises what was answered: no handler may take it, and it answers {n} {fuel}"
         ),
-        _ => refused(page, told, coro),
-    }
-    show::fuel(page, fuel);
-}
-
-// An instruction that is not done.
-fn refused(page: &mut Page, told: Eight, coro: u64) {
-    let n = told.0;
-    match n {
-        10 => {
-            show::runner(page, coro);
-            show::number(
-                page,
-                b" tries an instruction without fuel: its call answers ",
-                n,
-            );
-        }
-        17 => {
-            show::number(
-                page,
-                b"a cleanup starts before the next instruction: its call answers ",
-                n,
-            );
-            show::say(page, b" with");
-            show::value(page, told.1);
-        }
-        _ => {
-            show::runner(page, coro);
-            show::number(page, b" is refused: its call answers ", n);
-        }
-    }
-}
-
-// What take outcome answers: a number for what the coroutine did, and its word.
-fn outcome(page: &mut Page, did: u64, word: u64) {
-    match did {
-        0 => show::say(page, b"the host takes no outcome\n"),
-        1 => show::line(page, b"the host takes the outcome: it yielded", word),
-        2 => show::line(page, b"the host takes the outcome: it awaits", word),
-        3 => show::line(page, b"the host takes the outcome: it returned", word),
-        4 => show::line(page, b"the host takes the outcome: it failed with", word),
-        _ => show::say(
+        (_, Fault::OutOfFuel) => writeln!(
             page,
-            b"the host takes the outcome: it went on though it was closed\n",
+            "{runner} tries an instruction without fuel: its call answers {n} {fuel}"
+        ),
+        (_, Fault::Throw(word)) => writeln!(
+            page,
+            "a cleanup starts before the next instruction: its call answers {n} with {} {fuel}",
+            Value(word)
+        ),
+        _ => writeln!(page, "{runner} is refused: its call answers {n} {fuel}"),
+    }
+}
+
+// What a coroutine driven by the host did, as the host takes it.
+fn outcome(page: &mut Page, stop: Option<Stop>) {
+    match stop {
+        None => writeln!(page, "the host takes no outcome"),
+        Some(Stop::Yielded(word)) => writeln!(
+            page,
+            "the host takes the outcome: it yielded {}",
+            Value(word)
+        ),
+        Some(Stop::Awaiting(word)) => writeln!(
+            page,
+            "the host takes the outcome: it awaits {}",
+            Value(word)
+        ),
+        Some(Stop::Returned(word)) => writeln!(
+            page,
+            "the host takes the outcome: it returned {}",
+            Value(word)
+        ),
+        Some(Stop::Failed(word, _, _)) => writeln!(
+            page,
+            "the host takes the outcome: it failed with {}",
+            Value(word)
+        ),
+        Some(Stop::CloseIgnored) => writeln!(
+            page,
+            "the host takes the outcome: it went on though it was closed"
         ),
     }
 }
 
-// Of the other calls that were accepted, those that a person wants to see.
-fn other(page: &mut Page, frames: &[u64], m: Machine, fuel: Fuel, op: Op, told: Eight) {
-    match op {
-        Op::Grant { amount } => {
-            show::number(page, b"the host grants ", amount);
-            show::fuel(page, fuel);
-        }
-        Op::HandOver { coro } => {
-            show::name(page, coro);
-            show::say(page, b" is dropped: its cleanup is due");
-            show::fuel(page, fuel);
-        }
-        Op::Unwind { fault: _, pc: _ } => {
-            if told.4 != CAUGHT {
-                return;
-            }
-            if m.depth == 0 {
-                return;
-            }
-            show::number(
-                page,
-                b"its handler takes the signal: the cleanup block runs from pc ",
-                field(frames, m.depth - 1, 1),
-            );
-            show::say(page, b"\n");
-        }
-        Op::StopRun => {
-            show::number(
-                page,
-                b"the host stops the run: frames left ",
-                m.depth as u64,
-            );
-            show::say(page, b"\n");
-        }
-        Op::TakeOutcome => outcome(page, told.5, told.1),
-        _ => return,
-    }
-}
-
-// What there is to say of a call's answer.
-fn replied(
-    page: &mut Page,
-    frames: &[u64],
-    m: Machine,
-    fuel: Fuel,
-    op: Op,
-    told: Eight,
-    coro: u64,
-) {
-    if told.0 != 0 {
-        answered(page, op, told, coro, fuel);
-    } else {
-        other(page, frames, m, fuel, op, told);
+// Of the calls that were accepted, those that a person wants to see.
+fn accepted(page: &mut Page, frames: &[u64], m: Machine, fuel: Fuel, op: Op, answer: Answer) {
+    let fuel = AtHand(fuel);
+    let depth = m.depth;
+    match (op, answer) {
+        (Op::Grant { amount }, _) => writeln!(page, "the host grants {amount} {fuel}"),
+        (Op::HandOver { coro }, _) => writeln!(
+            page,
+            "{} is dropped: its cleanup is due {fuel}",
+            show::name(coro)
+        ),
+        (Op::Unwind { .. }, Answer::Caught) if depth > 0 => writeln!(
+            page,
+            "its handler takes the signal: the cleanup block runs from pc {}",
+            field(frames, depth - 1, PC)
+        ),
+        (Op::StopRun, _) => writeln!(page, "the host stops the run: frames left {depth}"),
+        (Op::TakeOutcome, Answer::Took(stop)) => outcome(page, stop),
+        _ => {}
     }
 }
 
@@ -268,8 +263,11 @@ pub(crate) fn after(
     requires { length notes.now ≡ 128 }
     ensures { result ≡ counted stack.now frames.now chain.now m (number_of answer) was notes.now count }
 {
+    match fault_of(answer) {
+        Some(fault) => refused(page, op, fault, was.coro, fuel),
+        None => accepted(page, frames, m, fuel, op, answer),
+    }
     let told = memory_calls::answer::words_of(answer);
-    replied(page, frames, m, fuel, op, told, was.coro);
     if was.active < m.active {
         let sent = arrives(told.0, was.sent);
         let top = outer_call::look::look(
@@ -295,43 +293,43 @@ pub(crate) fn after(
 
 // The first lines.
 pub(crate) fn heading(page: &mut Page) {
-    show::say(
+    writeln!(
         page,
-        b"A furnace line: its scripts (zones, a sensor, a recipe) sleep, and wake at other stack heights.\n",
+        "A furnace line: its scripts (zones, a sensor, a recipe) sleep, and wake at other stack heights."
     );
-    show::say(
+    writeln!(
         page,
-        b"  registers  of a zone: setpoint and last reading in degrees, then others; - is nil, @x refers to x\n",
+        "  registers  of a zone: setpoint and last reading in degrees, then others; - is nil, @x refers to x"
     );
-    show::say(
+    writeln!(
         page,
-        b"  picture    the stack, top frame first: heights | function and pc | script, if it has one | registers\n",
+        "  picture    the stack, top frame first: heights | function and pc | script, if it has one | registers"
     );
-    show::say(
+    writeln!(
         page,
-        b"  at         the functions and pcs of a sleeper's frames, its body first\n",
+        "  at         the functions and pcs of a sleeper's frames, its body first"
     );
-    show::say(
+    writeln!(
         page,
-        b"  sent       the word that a wake hands over, to the register where the sleeper waits; it stands in [ ], and the top pc steps by 1\n\n",
+        "  sent       the word that a wake hands over, to the register where the sleeper waits; it stands in [ ], and the top pc steps by 1"
     );
+    writeln!(page, "");
 }
 
 // The last lines.
 pub(crate) fn end(page: &mut Page, count: Count) {
-    show::number(page, b"\n", count.wakes);
-    show::number(page, b" wakes, ", count.equal);
-    if all_equal(count.wakes, count.equal) {
-        show::say(
+    let Count { wakes, equal } = count;
+    write!(page, "\n{wakes} wakes, {equal} equal");
+    if all_equal(wakes, equal) {
+        writeln!(
             page,
-            b" equal: each sleeper has its words and frames again, at another height, with the sent word where it waited.\n",
+            ": each sleeper has its words and frames again, at another height, with the sent word where it waited."
         );
-        return;
+    } else {
+        let others = wakes.wrapping_sub(equal);
+        writeln!(
+            page,
+            ", NOT EQUAL {others}: not every sleeper came back with what it held."
+        );
     }
-    show::number(
-        page,
-        b" equal, NOT EQUAL ",
-        std::num::wrapping_sub_u64(count.wakes, count.equal),
-    );
-    show::say(page, b": not every sleeper came back with what it held.\n");
 }

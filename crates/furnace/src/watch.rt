@@ -1,5 +1,5 @@
 // What is seen of a machine's words: whose frames stand on top, what a sleeper held, and whether it came back.
-ghost use Rattle.std.specs.Prelude.{◌≡◌, ◌+◌, ◌-◌, ◌*◌, ◌<◌, ◌≤◌, length, slice_index};
+ghost use Rattle.std.specs.Prelude.{◌≡◌, ◌+◌, ◌*◌, ◌<◌, ◌≤◌, length, slice_index};
 ghost use Rattle.memory_calls.specs.Codes.{same};
 ghost use Rattle.memory_tables.specs.Layout.{base_in};
 ghost use Rattle.furnace.specs.Watch.{floor_in, coro_in, innermost, owner_in, top_base, own_base, part_of, sent_by, arriving, at_most, sent_to, all_equal};
@@ -60,34 +60,11 @@ pub(crate) fn register(stack: &[u64], base: usize, r: usize) -> u64
     stack[base + r]
 }
 
-// The place of the last of n, and 0 for none.
-pub(crate) fn last(n: usize) -> usize
-    ensures { result ≡ n - 1 }
-{
-    if n == 0 {
-        return 0;
-    }
-    n - 1
-}
-
-// How far a lies above b.
-pub(crate) fn above(a: usize, b: usize) -> usize
-    ensures { result ≡ a - b }
-{
-    if a < b {
-        return 0;
-    }
-    a - b
-}
-
 // n, and at most so much.
 pub(crate) fn at_most(most: usize, n: usize) -> usize
     ensures { result ≡ at_most most n }
 {
-    if n <= most {
-        return n;
-    }
-    most
+    n.min(most)
 }
 
 // The innermost of n running coroutines; nil if there is none.
@@ -104,9 +81,7 @@ pub(crate) fn innermost(chain: &[u64], n: usize) -> u64
 pub(crate) fn owner(chain: &[u64], n: usize, i: usize) -> u64
     ensures { result ≡ owner_in chain.now n i }
 {
-    let mut k = n;
-    while k > 0 {
-        k -= 1;
+    for k in (0..n).rev() {
         if floor(chain, k) <= i {
             return coroutine(chain, k);
         }
@@ -118,14 +93,14 @@ pub(crate) fn owner(chain: &[u64], n: usize, i: usize) -> u64
 pub(crate) fn top_base(frames: &[u64], m: Machine) -> usize
     ensures { result ≡ top_base frames.now m }
 {
-    base(frames, last(m.depth))
+    base(frames, m.depth.saturating_sub(1))
 }
 
 // The base of the body frame of the innermost running coroutine: from there on the words of the stack are its own.
 pub(crate) fn own_base(frames: &[u64], chain: &[u64], m: Machine) -> usize
     ensures { result ≡ own_base frames.now chain.now m }
 {
-    base(frames, floor(chain, last(m.active)))
+    base(frames, floor(chain, m.active.saturating_sub(1)))
 }
 
 // What a call is to an observer.
@@ -144,90 +119,57 @@ pub(crate) fn part_of(op: Op) -> Part
     ensures { result ≡ part_of op }
 {
     match op {
-        Op::Yield { pc, dst, src: _ } => Part::Waits(dst, pc),
-        Op::YieldKv {
-            pc,
-            dst,
-            src: _,
-            key: _,
-        } => Part::Waits(dst, pc),
-        Op::Await { pc, dst, src: _ } => Part::Waits(dst, pc),
-        Op::Resume {
-            pc: _,
-            dst: _,
-            coro: _,
-            src,
-        } => Part::Sends(src),
-        Op::IterNext {
-            pc: _,
-            has: _,
-            iter: _,
-            val: _,
-            src: _,
-        } => Part::Hands(Word::NIL),
-        Op::HostEntry { coro: _, word } => Part::Hands(word),
+        Op::Yield { pc, dst, .. } => Part::Waits(dst, pc),
+        Op::YieldKv { pc, dst, .. } => Part::Waits(dst, pc),
+        Op::Await { pc, dst, .. } => Part::Waits(dst, pc),
+        Op::Resume { src, .. } => Part::Sends(src),
+        Op::IterNext { .. } => Part::Hands(Word::NIL),
+        Op::HostEntry { word, .. } => Part::Hands(word),
         _ => Part::Neither,
     }
 }
 
 // The word that a call sends to the coroutine that it enters, or none.
-#[derive(Clone, Copy)]
-pub(crate) struct Sent {
-    pub(crate) is: bool,
-    pub(crate) word: u64,
-}
-
-pub(crate) fn sends(stack: &[u64], frames: &[u64], m: Machine, p: Part) -> Sent
+pub(crate) fn sends(stack: &[u64], frames: &[u64], m: Machine, p: Part) -> Option<u64>
     ensures { result ≡ sent_by stack.now frames.now m p }
 {
     match p {
-        Part::Sends(r) => Sent {
-            is: true,
-            word: register(stack, top_base(frames, m), r as usize),
-        },
-        Part::Hands(x) => Sent { is: true, word: x },
-        _ => Sent { is: false, word: 0 },
+        Part::Sends(r) => Some(register(stack, top_base(frames, m), r as usize)),
+        Part::Hands(x) => Some(x),
+        _ => None,
     }
 }
 
 // What of it arrives: nothing where the call was answered by a cleanup's start.
-pub(crate) fn arrives(n: u64, sent: Sent) -> Sent
+pub(crate) fn arrives(n: u64, sent: Option<u64>) -> Option<u64>
     ensures { result ≡ arriving n sent }
 {
-    if n == 0 {
-        return sent;
-    }
-    Sent { is: false, word: 0 }
+    if n == 0 { sent } else { None }
 }
 
 // Word i of those that a sleeper held, with the sent one at `place`.
-fn wanted(held: &[u64], sent: Sent, place: usize, i: usize) -> u64
+fn wanted(held: &[u64], sent: Option<u64>, place: usize, i: usize) -> u64
     requires { i < length held.now }
-    ensures { result ≡ slice_index (sent_to sent.is place sent.word held.now) i }
+    ensures { result ≡ slice_index (sent_to sent place held.now) i }
 {
-    if !sent.is {
-        return held[i];
+    match sent {
+        Some(word) => { if i == place { word } else { held[i] } }
+        None => held[i],
     }
-    if i == place {
-        return sent.word;
-    }
-    held[i]
 }
 
 // Whether what came back is what it held, with the sent word where it waited.
-pub(crate) fn woke(held: &[u64], sent: Sent, place: usize, back: &[u64]) -> bool
-    ensures { result ≡ same (sent_to sent.is place sent.word held.now) back.now }
+pub(crate) fn woke(held: &[u64], sent: Option<u64>, place: usize, back: &[u64]) -> bool
+    ensures { result ≡ same (sent_to sent place held.now) back.now }
 {
     if held.len() != back.len() {
         return false;
     }
-    let mut i = 0;
-    while i < held.len() {
+    for (i, &is) in back.iter().enumerate() {
         let want = wanted(held, sent, place, i);
-        if want != back[i] {
+        if want != is {
             return false;
         }
-        i += 1;
     }
     true
 }
@@ -236,11 +178,5 @@ pub(crate) fn woke(held: &[u64], sent: Sent, place: usize, back: &[u64]) -> bool
 pub(crate) fn all_equal(wakes: u64, equal: u64) -> bool
     ensures { result ≡ all_equal wakes equal }
 {
-    if wakes == 0 {
-        return false;
-    }
-    if equal != wakes {
-        return false;
-    }
-    true
+    wakes != 0 && equal == wakes
 }

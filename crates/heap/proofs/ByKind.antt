@@ -11,10 +11,9 @@ use Rattle.heap.specs.Object.{is_done}
 use Rattle.heap.specs.Slot.{is_set, coro_at, object_at}
 use Rattle.heap.specs.Kind.{as_callee}
 use Rattle.heap.specs.declared.fault.Fault.TheVariants as F
-use Rattle.heap.specs.declared.value.Opt.TheVariants as M
+use Rattle.std.specs.Prelude.{Some, None, Ok, Err}
 use Rattle.heap.specs.declared.object.Object.{Object}
 use Rattle.heap.specs.declared.object.Object.TheVariants as O
-use Rattle.heap.specs.declared.kind.Callable.TheVariants as K
 
 module _ (ws : List ℕ) where
   abbrev kind : ℕ
@@ -28,13 +27,13 @@ module _ (ws : List ℕ) where
   by_tests a b c d e f =
       pick a (O.Func (get_or ws 2 0))
       (pick b (O.Int (get_or ws 2 0))
-      (pick c (O.Iter (get_or ws 2 0) done M.None)
-      (pick d (O.Iter (get_or ws 2 0) done (M.Some (get_or ws 4 0)))
+      (pick c (O.Iter (get_or ws 2 0) done None)
+      (pick d (O.Iter (get_or ws 2 0) done (Some (get_or ws 4 0)))
       (pick e (O.Error (get_or ws 2 0) (get_or ws 3 0) (get_or ws 4 0) (get_or ws 5 0))
       (pick f (O.Coro (coro_at ws))
       O.Empty)))))
 
-  callee-by : (a b c d e f : Bool) → as_callee (by_tests a b c d e f) ≡ pick a (K.Func (get_or ws 2 0)) (K.Not F.TypeError)
+  callee-by : (a b c d e f : Bool) → as_callee (by_tests a b c d e f) ≡ pick a (Ok (get_or ws 2 0)) (Err F.TypeError)
   unfolding pick
   callee-by true b c d e f = refl
   callee-by false true c d e f = refl
@@ -44,17 +43,17 @@ module _ (ws : List ℕ) where
   callee-by false false false false false true = refl
   callee-by false false false false false false = refl
 
-  callee-kind : as_callee (object_at ws) ≡ pick (eqb kind 1) (K.Func (get_or ws 2 0)) (K.Not F.TypeError)
+  callee-kind : as_callee (object_at ws) ≡ pick (eqb kind 1) (Ok (get_or ws 2 0)) (Err F.TypeError)
   callee-kind = callee-by (eqb kind 1) (eqb kind 2) (eqb kind 3) (eqb kind 4) (eqb kind 5) (eqb kind 6)
 
   -- kind 1 is a function
-  pub func-kind : kind ≡ 1 → as_callee (object_at ws) ≡ K.Func (get_or ws 2 0)
+  pub func-kind : kind ≡ 1 → as_callee (object_at ws) ≡ Ok (get_or ws 2 0)
   unfolding pick
-  func-kind e = callee-kind ∙ ap (λ (b : Bool). pick b (K.Func (get_or ws 2 0)) (K.Not F.TypeError)) (eq-eqb kind 1 e)
+  func-kind e = callee-kind ∙ ap (λ (b : Bool). pick b (Ok (get_or ws 2 0)) (Err F.TypeError)) (eq-eqb kind 1 e)
 
-  pub no-func : (kind ≡ 1 → ⊥) → as_callee (object_at ws) ≡ K.Not F.TypeError
+  pub no-func : (kind ≡ 1 → ⊥) → as_callee (object_at ws) ≡ Err F.TypeError
   unfolding pick
-  no-func h = callee-kind ∙ ap (λ (b : Bool). pick b (K.Func (get_or ws 2 0)) (K.Not F.TypeError)) (ne_eqb kind 1 h)
+  no-func h = callee-kind ∙ ap (λ (b : Bool). pick b (Ok (get_or ws 2 0)) (Err F.TypeError)) (ne_eqb kind 1 h)
 
   iter-by : (k : ℕ) → k ≡ 3 → is_done (by_tests (eqb k 1) (eqb k 2) (eqb k 3) (eqb k 4) (eqb k 5) (eqb k 6)) ≡ done
   unfolding pick

@@ -12,7 +12,7 @@ use borrow.Author.Tests.{lt-ltb, le-ltb, ltb-true, ltb-false}
 use Rattle.lists.specs.Pick.{pick}
 use Rattle.heap.specs.Coding.{bits_of, of_bits}
 use Rattle.heap.specs.Int.{exact_in}
-use Rattle.heap.specs.declared.int.Exact.TheVariants as X
+use Rattle.std.specs.Prelude.{Some, None}
 
 -- 2 ^ (h + 1) is twice 2 ^ h
 pub double : (h : ℕ) → 2 ^ (h + 1) ≡ 2 ^ h * 2
@@ -58,15 +58,15 @@ bits_below h (negsuc n) r = omega (arith, double h)
 -- ---- h + 1 bits read at a signed and at an unsigned type of that width
 
 -- signed, they are always in the range
-pub signed-fits : (h n : ℕ) → n < 2 ^ (h + 1) → X.Fits n ≡ exact_in h (of_bits h n)
+pub signed-fits : (h n : ℕ) → n < 2 ^ (h + 1) → Some n ≡ exact_in h (of_bits h n)
 unfolding pick
 signed-fits h n f = rw (lt-ltb (mag (of_bits h n)) (2 ^ h) (of_range h n f), bits-of h n f)
 
 -- unsigned, the lower half of them is, and the upper half is not
-pub unsigned-fits : (h n : ℕ) → n < 2 ^ h → X.Fits n ≡ exact_in h (pos n)
+pub unsigned-fits : (h n : ℕ) → n < 2 ^ h → Some n ≡ exact_in h (pos n)
 unfolding pick
 unsigned-fits h n f = rw (lt-ltb n (2 ^ h) f)
 
-pub unsigned-over : (h n : ℕ) → 2 ^ h ≤ n → X.Over ≡ exact_in h (pos n)
+pub unsigned-over : (h n : ℕ) → 2 ^ h ≤ n → None ≡ exact_in h (pos n)
 unfolding pick
 unsigned-over h n f = rw (le-ltb n (2 ^ h) f)

@@ -18,13 +18,12 @@ use Rattle.heap.specs.Heap.{slot_in, slots_of, as_coro, coro_by, coro_of}
 use Rattle.heap.specs.declared.value.Obj.{Obj}
 use Rattle.heap.specs.declared.object.Object.{Object}
 use Rattle.heap.specs.declared.object.Object.TheVariants as O
-use Rattle.heap.specs.declared.heap.Place.{Place}
+use Rattle.std.specs.Prelude.{Option, Some, None}
 use Rattle.heap.specs.declared.value.Class.{Class}
 use Rattle.heap.specs.declared.value.Class.TheVariants as C
-use Rattle.heap.specs.declared.heap.Place.TheVariants as P
 
 module _ {A : Type 0} (none : A) (filled : A → Bool) (xs : List (Slot A)) where
-  by-test : (i w : ℕ) (b : Bool) → names none filled xs w ≡ b → P.At i ≡ pick b (P.At (slot_of w)) P.Nothing → i < length xs
+  by-test : (i w : ℕ) (b : Bool) → names none filled xs w ≡ b → Some i ≡ pick b (Some (slot_of w)) None → i < length xs
   unfolding pick
   by-test i w true e f =
       let h : i ≡ slot_of w = cc in
@@ -32,41 +31,41 @@ module _ {A : Type 0} (none : A) (filled : A → Bool) (xs : List (Slot A)) wher
       rw h (ltb-true (slot_of w) (length xs) t)
   by-test i w false e f = never cc
 
-  in-class : (i : ℕ) (k : Class) → P.At i ≡ get_in none filled xs k → i < length xs
+  in-class : (i : ℕ) (k : Class) → Some i ≡ get_in none filled xs k → i < length xs
   in-class i C.Nil e = never cc
   in-class i (C.Ref o) e = by-test i o.0 (names none filled xs o.0) refl e
   in-class i (C.Int z) e = never cc
   in-class i C.Opaque e = never cc
 
   -- what is found is a slot of the table
-  pub place-below : (i w : ℕ) → P.At i ≡ get none filled xs w → i < length xs
+  pub place-below : (i w : ℕ) → Some i ≡ get none filled xs w → i < length xs
   place-below i w e = in-class i (class_of w) e
 
 -- ---- a lookup in the words, from the slot's number, tag and object
 
 module _ (n : ℕ) (ws : List ℕ) (o : Obj) (i t : ℕ) (at : i ≡ slot_of o.0) (tag : t ≡ tag_of o.0) where
-  abbrev found : Place
+  abbrev found : Option ℕ
   found = get_in O.Empty is_filled (slots_of n ws) (C.Ref o)
 
-  pub beyond : n ≤ i → P.Nothing ≡ found
+  pub beyond : n ≤ i → None ≡ found
   unfolding pick
   beyond h = let k : n ≤ slot_of o.0 = rw (← at) h in rw (length-chunks width slot_of_words n ws, le-ltb (slot_of o.0) n k)
 
-  read : i < n → pick (eqb (slot_in ws i).tag t && is_filled (slot_in ws i).object) (P.At i) P.Nothing ≡ found
+  read : i < n → pick (eqb (slot_in ws i).tag t && is_filled (slot_in ws i).object) (Some i) None ≡ found
   read h =
       let k : slot_of o.0 < n = rw (← at) h in
       rw (at, tag, length-chunks width slot_of_words n ws, lt-ltb (slot_of o.0) n k, chunks-at width slot_of_words n (slot_of o.0) ws (slot 0 O.Empty) k)
 
-  pub other_tag : i < n → ((slot_in ws i).tag ≡ t → ⊥) → P.Nothing ≡ found
+  pub other_tag : i < n → ((slot_in ws i).tag ≡ t → ⊥) → None ≡ found
   unfolding pick
   other_tag h d = rw (ne_eqb (slot_in ws i).tag t d) at (read h)
 
-  pub same_tag : (b : Bool) → i < n → (slot_in ws i).tag ≡ t → b ≡ is_filled (slot_in ws i).object → pick b (P.At i) P.Nothing ≡ found
+  pub same_tag : (b : Bool) → i < n → (slot_in ws i).tag ≡ t → b ≡ is_filled (slot_in ws i).object → pick b (Some i) None ≡ found
   same_tag b h e f = rw (eq-eqb (slot_in ws i).tag t e, ← f) at (read h)
 
 -- ---- a place that was found, in the words
 
-module _ (n : ℕ) (ws : List ℕ) (w i : ℕ) (found : P.At i ≡ get O.Empty is_filled (slots_of n ws) w) where
+module _ (n : ℕ) (ws : List ℕ) (w i : ℕ) (found : Some i ≡ get O.Empty is_filled (slots_of n ws) w) where
   pub found_below : i < n
   found_below = rw (length-chunks width slot_of_words n ws) at (place-below O.Empty is_filled (slots_of n ws) i w found)
 

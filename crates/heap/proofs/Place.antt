@@ -14,41 +14,38 @@ use Rattle.heap.specs.Slot.{coro_at, object_at}
 use Rattle.heap.specs.Heap.{slots_of, as_coro, coro_by, place_of, coro_of}
 use Rattle.heap.specs.declared.fault.Fault.{Fault}
 use Rattle.heap.specs.declared.object.Object.TheVariants as O
-use Rattle.heap.specs.declared.heap.Place.{Place}
-use Rattle.heap.specs.declared.heap.Place.TheVariants as P
-use Rattle.heap.specs.declared.heap.Coroutine.{Coroutine}
-use Rattle.heap.specs.declared.heap.Coroutine.TheVariants as R
-use Rattle.heap.specs.declared.heap.CoroPlace.TheVariants as L
+use Rattle.std.specs.Prelude.{Option, Result, Some, None, Ok, Err}
+use Rattle.heap.specs.declared.object.CoroObj.{CoroObj}
 use Rattle.heap.proofs.Lookups.{found-words, found-coro}
 use Rattle.heap.proofs.Slots.{coro-kind, other-kind}
 
 -- no coroutine
-pub none-there : (k : Coroutine) (f : Fault) → L.Not f ≡ place_of k → R.Not f ≡ k
-none-there (R.At i c) f e = never cc
-none-there (R.Not g) f e = ap R.Not cc
+pub none-there : (k : Result (ℕ × CoroObj) Fault) (f : Fault) → Err f ≡ place_of k → Err f ≡ k
+none-there (Ok (i, c)) f e = never cc
+none-there (Err g) f e = ap Err cc
 
 -- one at place i, with the record that the words there tell
-module _ (n : ℕ) (ws : List ℕ) (w i : ℕ) (at : L.At i ≡ place_of (coro_of (slots_of n ws) w)) where
+module _ (n : ℕ) (ws : List ℕ) (w i : ℕ) (at : Ok i ≡ place_of (coro_of (slots_of n ws) w)) where
   pub record Stands : Type 0 where
-    pub place : P.At i ≡ get O.Empty is_filled (slots_of n ws) w
-    pub coro : R.At i (coro_at (chunk_at 20 ws i)) ≡ coro_of (slots_of n ws) w
+    pub place : Some i ≡ get O.Empty is_filled (slots_of n ws) w
+    pub coro : Ok (i, coro_at (chunk_at 20 ws i)) ≡ coro_of (slots_of n ws) w
 
   abbrev here : ℕ → List ℕ
   here j = chunk_at 20 ws j
 
-  by_kind : (j : ℕ) (b : Bool) → eqb (get_or (here j) 1 0) 6 ≡ b → L.At i ≡ place_of (as_coro j (object_at (here j))) → (i ≡ j) × (R.At j (coro_at (here j)) ≡ as_coro j (object_at (here j)))
+  by_kind : (j : ℕ) (b : Bool) → eqb (get_or (here j) 1 0) 6 ≡ b → Ok i ≡ place_of (as_coro j (object_at (here j))) → (i ≡ j) × (Ok (j, coro_at (here j)) ≡ as_coro j (object_at (here j)))
   by_kind j true e q =
       let k = ap (as_coro j) (coro-kind (here j) (eqb-true (get_or (here j) 1 0) 6 e)) in
-      let z : L.At i ≡ L.At j = q ∙ ap place_of k in (cc, sym k)
+      let z : Ok i ≡ Ok j = q ∙ ap place_of k in (cc, sym k)
   by_kind j false e q = let z = q ∙ ap place_of (other-kind (here j) j (eqb-false (get_or (here j) 1 0) 6 e)) in never cc
 
-  by_place : (p : Place) → p ≡ get O.Empty is_filled (slots_of n ws) w → L.At i ≡ place_of (coro_by (slots_of n ws) w p) → Stands
-  by_place P.Nothing q e = never cc
-  by_place (P.At j) q e =
+  by_place : (p : Option ℕ) → p ≡ get O.Empty is_filled (slots_of n ws) w → Ok i ≡ place_of (coro_by (slots_of n ws) w p) → Stands
+  by_place None q e = never cc
+  by_place (Some j) q e =
       let z = by_kind j (eqb (get_or (here j) 1 0) 6) refl (at ∙ ap place_of (sym (found-coro n ws w j q))) in
       record {
-        place = ap P.At z.0 ∙ q;
-        coro = ap (λ k. R.At k (coro_at (here k))) z.0 ∙ z.1 ∙ found-coro n ws w j q;
+        place = ap Some z.0 ∙ q;
+        coro = ap (λ k. Ok (k, coro_at (here k))) z.0 ∙ z.1 ∙ found-coro n ws w j q;
       }
 
   pub stands : Stands

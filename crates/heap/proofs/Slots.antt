@@ -11,10 +11,9 @@ use Rattle.heap.specs.Object.{code_of, state_of, is_filled}
 use Rattle.heap.specs.Table.{Slot, slot, push_object}
 use Rattle.heap.specs.Slot.{width, flag, is_set, coro_at, object_at, fills, slot_words, slot_of_words}
 use Rattle.heap.specs.Heap.{slots_of, put_slot, as_coro}
-use Rattle.heap.specs.declared.heap.Coroutine.TheVariants as R
+use Rattle.std.specs.Prelude.{Some, None, Err}
 use Rattle.heap.specs.declared.fault.Fault.TheVariants as F
 use borrow.Author.Tests.{ne_eqb}
-use Rattle.heap.specs.declared.value.Opt.TheVariants as M
 use Rattle.heap.specs.declared.object.CoroState.{CoroState}
 use Rattle.heap.specs.declared.object.CoroState.TheVariants as S
 use Rattle.heap.specs.declared.object.Object.{Object}
@@ -38,8 +37,8 @@ unfolding pick
 object-back t O.Empty = refl
 object-back t (O.Func f) = refl
 object-back t (O.Int n) = refl
-object-back t (O.Iter s d M.None) = rw (set-flag d)
-object-back t (O.Iter s d (M.Some k)) = rw (set-flag d)
+object-back t (O.Iter s d None) = rw (set-flag d)
+object-back t (O.Iter s d (Some k)) = rw (set-flag d)
 object-back t (O.Error e f p w) = refl
 object-back t (O.Coro c) = rw (state-back c.state, set-flag c.closing, set-flag c.finalized, set-flag c.task)
 
@@ -50,8 +49,8 @@ filled-by : (ws : List ℕ) (a b c d e f : Bool)
     → is_filled
     (pick a (O.Func (get_or ws 2 0))
     (pick b (O.Int (get_or ws 2 0))
-    (pick c (O.Iter (get_or ws 2 0) (is_set (get_or ws 3 0)) M.None)
-    (pick d (O.Iter (get_or ws 2 0) (is_set (get_or ws 3 0)) (M.Some (get_or ws 4 0)))
+    (pick c (O.Iter (get_or ws 2 0) (is_set (get_or ws 3 0)) None)
+    (pick d (O.Iter (get_or ws 2 0) (is_set (get_or ws 3 0)) (Some (get_or ws 4 0)))
     (pick e (O.Error (get_or ws 2 0) (get_or ws 3 0) (get_or ws 4 0) (get_or ws 5 0))
     (pick f (O.Coro (coro_at ws))
     O.Empty))))))
@@ -74,8 +73,8 @@ filled-kind ws =
 coro-by : (ws : List ℕ) (k : ℕ) → k ≡ 6
     → pick (eqb k 1) (O.Func (get_or ws 2 0))
     (pick (eqb k 2) (O.Int (get_or ws 2 0))
-    (pick (eqb k 3) (O.Iter (get_or ws 2 0) (is_set (get_or ws 3 0)) M.None)
-    (pick (eqb k 4) (O.Iter (get_or ws 2 0) (is_set (get_or ws 3 0)) (M.Some (get_or ws 4 0)))
+    (pick (eqb k 3) (O.Iter (get_or ws 2 0) (is_set (get_or ws 3 0)) None)
+    (pick (eqb k 4) (O.Iter (get_or ws 2 0) (is_set (get_or ws 3 0)) (Some (get_or ws 4 0)))
     (pick (eqb k 5) (O.Error (get_or ws 2 0) (get_or ws 3 0) (get_or ws 4 0) (get_or ws 5 0))
     (pick (eqb k 6) (O.Coro (coro_at ws))
     O.Empty)))))
@@ -91,12 +90,12 @@ other-by : (ws : List ℕ) (i : ℕ) (a b c d e f : Bool) → f ≡ false
     → as_coro i
     (pick a (O.Func (get_or ws 2 0))
     (pick b (O.Int (get_or ws 2 0))
-    (pick c (O.Iter (get_or ws 2 0) (is_set (get_or ws 3 0)) M.None)
-    (pick d (O.Iter (get_or ws 2 0) (is_set (get_or ws 3 0)) (M.Some (get_or ws 4 0)))
+    (pick c (O.Iter (get_or ws 2 0) (is_set (get_or ws 3 0)) None)
+    (pick d (O.Iter (get_or ws 2 0) (is_set (get_or ws 3 0)) (Some (get_or ws 4 0)))
     (pick e (O.Error (get_or ws 2 0) (get_or ws 3 0) (get_or ws 4 0) (get_or ws 5 0))
     (pick f (O.Coro (coro_at ws))
     O.Empty))))))
-    ≡ R.Not F.TypeError
+    ≡ Err F.TypeError
 unfolding pick
 other-by ws i true b c d e f h = refl
 other-by ws i false true c d e f h = refl
@@ -106,7 +105,7 @@ other-by ws i false false false false true f h = refl
 other-by ws i false false false false false f h = rw h
 
 -- another is none
-pub other-kind : (ws : List ℕ) (i : ℕ) → (get_or ws 1 0 ≡ 6 → ⊥) → as_coro i (object_at ws) ≡ R.Not F.TypeError
+pub other-kind : (ws : List ℕ) (i : ℕ) → (get_or ws 1 0 ≡ 6 → ⊥) → as_coro i (object_at ws) ≡ Err F.TypeError
 other-kind ws i h =
     let k = get_or ws 1 0 in
     other-by ws i (eqb k 1) (eqb k 2) (eqb k 3) (eqb k 4) (eqb k 5) (eqb k 6) (ne_eqb k 6 h)
@@ -115,8 +114,8 @@ words_long : (t : ℕ) (o : Object) → length (slot_words (slot t o)) ≡ 20
 words_long t O.Empty = refl
 words_long t (O.Func f) = refl
 words_long t (O.Int n) = refl
-words_long t (O.Iter s d M.None) = refl
-words_long t (O.Iter s d (M.Some k)) = refl
+words_long t (O.Iter s d None) = refl
+words_long t (O.Iter s d (Some k)) = refl
 words_long t (O.Error e f p w) = refl
 words_long t (O.Coro c) = refl
 

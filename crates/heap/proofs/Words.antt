@@ -11,7 +11,6 @@ use lib.Signed.{mag}
 use Rattle.lists.specs.Pick.{pick}
 use Rattle.heap.specs.Coding.{bits_of, of_bits}
 use Rattle.heap.specs.Word.{nil, reference, slot_of, tag_of, top_of, int_word, class_of}
-use Rattle.heap.specs.Int.{exactly}
 use Rattle.heap.specs.declared.value.Class.{Class}
 use Rattle.heap.specs.declared.value.Class.TheVariants as C
 use Rattle.heap.proofs.Coding.{of-bits, bits-of, bits_below}

@@ -1,5 +1,5 @@
 -- fault.rs: Fault. 01: Fault sheet.
-use Rattle.std.specs.Prelude.{ℕ, Bool, eqb}
+use Rattle.std.specs.Prelude.{ℕ}
 use Rattle.heap.specs.declared.fault.Fault.{Fault}
 use Rattle.heap.specs.declared.fault.Fault.TheVariants as F
 
@@ -44,6 +44,3 @@ word_of F.Full = 0
 word_of F.Busy = 0
 word_of F.GrantTooLarge = 0
 word_of (F.Throw w) = w
-
-abbrev pub is_none : Fault → Bool
-is_none f = eqb (number_of f) 0

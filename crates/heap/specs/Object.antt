@@ -1,8 +1,6 @@
 -- heap.rs: Object. 01: State codes.
-use Rattle.std.specs.Prelude.{ℕ, max, Bool, true, false, eqb}
+use Rattle.std.specs.Prelude.{ℕ, max, Bool, true, false, eqb, Option, Some, None}
 use Rattle.lists.specs.Pick.{pick}
-use Rattle.heap.specs.declared.value.Opt.{Opt}
-use Rattle.heap.specs.declared.value.Opt.TheVariants as M
 use Rattle.heap.specs.declared.object.CoroState.{CoroState}
 use Rattle.heap.specs.declared.object.CoroState.TheVariants as S
 use Rattle.heap.specs.declared.object.CoroObj.{CoroObj}
@@ -36,13 +34,13 @@ is_filled (O.Error e f p w) = true
 is_filled (O.Coro c) = true
 
 -- the integer of an integer object
-abbrev pub int_of : Object → Opt
-int_of O.Empty = M.None
-int_of (O.Func f) = M.None
-int_of (O.Int n) = M.Some n
-int_of (O.Iter s d k) = M.None
-int_of (O.Error e f p w) = M.None
-int_of (O.Coro c) = M.None
+abbrev pub int_of : Object → Option ℕ
+int_of O.Empty = None
+int_of (O.Func f) = None
+int_of (O.Int n) = Some n
+int_of (O.Iter s d k) = None
+int_of (O.Error e f p w) = None
+int_of (O.Coro c) = None
 
 -- an iterator that is done
 abbrev pub is_done : Object → Bool

@@ -1,5 +1,5 @@
 -- What each word of a slot can hold: the table of ranges, a row for each kind. Words within their row are a slot's words.
-use Rattle.std.specs.Prelude.{ℕ, ◌*◌, ◌-◌, ◌^◌, Bool, true, false, ◌&&◌, List, [], ◌∷◌, ◌++◌, get_or, drop, replicate, leb}
+use Rattle.std.specs.Prelude.{ℕ, ◌*◌, ◌-◌, ◌^◌, Bool, true, false, ◌&&◌, List, [], ◌∷◌, get_or, drop, replicate, leb}
 use Rattle.lists.specs.Chunks.{chunk_at}
 use Rattle.lists.specs.Tests.{all_below, zeros}
 use Rattle.heap.specs.Slot.{width}

@@ -1,11 +1,9 @@
 -- A slot in 20 words: tag, kind, then the object's fields in order; words that are not used are 0. This layout is known to
 -- this crate alone.
-use Rattle.std.specs.Prelude.{ℕ, ◌^◌, ◌-◌, max, Bool, true, false, not, List, [], ◌∷◌, ◌++◌, get_or, set, replicate, eqb}
+use Rattle.std.specs.Prelude.{ℕ, max, Bool, true, false, not, List, ◌∷◌, get_or, set, replicate, eqb, Option, Some, None}
 use Rattle.lists.specs.Pick.{pick}
 use Rattle.heap.specs.Object.{code_of, state_of}
 use Rattle.heap.specs.Table.{Slot, slot}
-use Rattle.heap.specs.declared.value.Opt.{Opt}
-use Rattle.heap.specs.declared.value.Opt.TheVariants as M
 use Rattle.heap.specs.declared.object.CoroState.{CoroState}
 use Rattle.heap.specs.declared.object.CoroObj.{CoroObj}
 use Rattle.heap.specs.declared.object.Object.{Object}
@@ -36,9 +34,9 @@ coro_fields c =
     code_of c.state ∷ flag c.closing ∷ flag c.finalized ∷ flag c.task ∷ c.seq ∷ c.row ∷ c.regs ∷ c.frames
     ∷ c.maxregs ∷ c.maxframes ∷ c.waiting ∷ c.payload ∷ c.key ∷ c.largest ∷ c.result ∷ c.signal ∷ zero 2
 
-abbrev pub iter_fields : ℕ → Bool → Opt → List ℕ
-iter_fields s d M.None = 3 ∷ s ∷ flag d ∷ zero 16
-iter_fields s d (M.Some k) = 4 ∷ s ∷ flag d ∷ k ∷ zero 15
+abbrev pub iter_fields : ℕ → Bool → Option ℕ → List ℕ
+iter_fields s d None = 3 ∷ s ∷ flag d ∷ zero 16
+iter_fields s d (Some k) = 4 ∷ s ∷ flag d ∷ k ∷ zero 15
 
 -- kind and fields: 0 empty, 1 function, 2 integer, 3 iterator without a key, 4 iterator with one, 5 error, 6 coroutine
 abbrev pub object_words : Object → List ℕ
@@ -111,8 +109,8 @@ abbrev pub object_at : List ℕ → Object
 object_at ws =
     pick (eqb (get_or ws 1 0) 1) (O.Func (get_or ws 2 0))
     (pick (eqb (get_or ws 1 0) 2) (O.Int (get_or ws 2 0))
-    (pick (eqb (get_or ws 1 0) 3) (O.Iter (get_or ws 2 0) (is_set (get_or ws 3 0)) M.None)
-    (pick (eqb (get_or ws 1 0) 4) (O.Iter (get_or ws 2 0) (is_set (get_or ws 3 0)) (M.Some (get_or ws 4 0)))
+    (pick (eqb (get_or ws 1 0) 3) (O.Iter (get_or ws 2 0) (is_set (get_or ws 3 0)) None)
+    (pick (eqb (get_or ws 1 0) 4) (O.Iter (get_or ws 2 0) (is_set (get_or ws 3 0)) (Some (get_or ws 4 0)))
     (pick (eqb (get_or ws 1 0) 5) (O.Error (get_or ws 2 0) (get_or ws 3 0) (get_or ws 4 0) (get_or ws 5 0))
     (pick (eqb (get_or ws 1 0) 6) (O.Coro (coro_at ws))
     O.Empty)))))

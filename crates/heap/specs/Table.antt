@@ -1,15 +1,11 @@
 -- heap.rs: the slots, for any type of object. `filled` tells an object from an empty slot.
-use Rattle.std.specs.Prelude.{ℕ, Bool, true, false, ◌&&◌, List, [], ◌∷◌, ◌++◌, length, get_or, set, eqb, ltb}
+use Rattle.std.specs.Prelude.{ℕ, Bool, ◌&&◌, List, [], ◌∷◌, ◌++◌, length, get_or, set, eqb, ltb, Option, Some, None}
 use Rattle.lists.specs.Pick.{pick}
 use Rattle.heap.specs.declared.fault.Fault.{Fault}
 use Rattle.heap.specs.declared.fault.Fault.TheVariants as F
 use Rattle.heap.specs.Word.{slot_of, tag_of, class_of, reference}
-use Rattle.heap.specs.declared.value.Opt.{Opt}
-use Rattle.heap.specs.declared.value.Opt.TheVariants as M
 use Rattle.heap.specs.declared.value.Class.{Class}
 use Rattle.heap.specs.declared.value.Class.TheVariants as C
-use Rattle.heap.specs.declared.heap.Place.{Place}
-use Rattle.heap.specs.declared.heap.Place.TheVariants as P
 
 pub record Slot (A : Type 0) : Type 0 where
   pub tag : ℕ
@@ -27,27 +23,27 @@ module _ {A : Type 0} (none : A) (filled : A → Bool) where
   names xs w = ltb (slot_of w) (length xs) && (eqb (slot_at xs (slot_of w)).tag (tag_of w) && filled (slot_at xs (slot_of w)).object)
 
   -- heap.rs: get, the slot that a word names
-  abbrev pub get_in : List (Slot A) → Class → Place
-  get_in xs C.Nil = P.Nothing
-  get_in xs (C.Ref o) = pick (names xs o.0) (P.At (slot_of o.0)) P.Nothing
-  get_in xs (C.Int z) = P.Nothing
-  get_in xs C.Opaque = P.Nothing
+  abbrev pub get_in : List (Slot A) → Class → Option ℕ
+  get_in xs C.Nil = None
+  get_in xs (C.Ref o) = pick (names xs o.0) (Some (slot_of o.0)) None
+  get_in xs (C.Int z) = None
+  get_in xs C.Opaque = None
 
-  abbrev pub get : List (Slot A) → ℕ → Place
+  abbrev pub get : List (Slot A) → ℕ → Option ℕ
   get xs w = get_in xs (class_of w)
 
   -- conv: dyn_int, the integer that a word is or names
-  abbrev pub dyn_int_at : (A → Opt) → List (Slot A) → Place → Opt
-  dyn_int_at int_of xs P.Nothing = M.None
-  dyn_int_at int_of xs (P.At i) = int_of (slot_at xs i).object
+  abbrev pub dyn_int_at : (A → Option ℕ) → List (Slot A) → Option ℕ → Option ℕ
+  dyn_int_at int_of xs None = None
+  dyn_int_at int_of xs (Some i) = int_of (slot_at xs i).object
 
-  abbrev pub dyn_int_by : (A → Opt) → List (Slot A) → Class → Opt
-  dyn_int_by int_of xs C.Nil = M.None
+  abbrev pub dyn_int_by : (A → Option ℕ) → List (Slot A) → Class → Option ℕ
+  dyn_int_by int_of xs C.Nil = None
   dyn_int_by int_of xs (C.Ref o) = dyn_int_at int_of xs (get xs o.0)
-  dyn_int_by int_of xs (C.Int n) = M.Some n
-  dyn_int_by int_of xs C.Opaque = M.None
+  dyn_int_by int_of xs (C.Int n) = Some n
+  dyn_int_by int_of xs C.Opaque = None
 
-  abbrev pub dyn_int_of : (A → Opt) → List (Slot A) → ℕ → Opt
+  abbrev pub dyn_int_of : (A → Option ℕ) → List (Slot A) → ℕ → Option ℕ
   dyn_int_of int_of xs w = dyn_int_by int_of xs (class_of w)
 
 -- heap.rs: an object put into a slot; the tag stays
@@ -63,9 +59,9 @@ abbrev pub next_word : {A : Type 0} → List (Slot A) → ℕ
 next_word xs = reference (length xs) 0
 
 -- coll: not_a. 01: "1 for nil or a reference that finds no object, else 2."
-abbrev pub not_a : Class → Place → Fault
+abbrev pub not_a : Class → Option ℕ → Fault
 not_a C.Nil p = F.NullReference
-not_a (C.Ref o) P.Nothing = F.NullReference
-not_a (C.Ref o) (P.At i) = F.TypeError
+not_a (C.Ref o) None = F.NullReference
+not_a (C.Ref o) (Some i) = F.TypeError
 not_a (C.Int z) p = F.TypeError
 not_a C.Opaque p = F.TypeError

@@ -1,6 +1,6 @@
 // fault.rs: why a call stopped. 01: Fault sheet.
 ghost use Rattle.std.specs.Prelude.{◌≡◌};
-ghost use Rattle.heap.specs.Fault.{number_of, word_of, is_none};
+ghost use Rattle.heap.specs.Fault.{number_of, word_of};
 
 #[derive(Clone, Copy)]
 pub enum Fault {
@@ -73,11 +73,5 @@ impl Fault {
         ensures { result ≡ word_of self }
     {
         if let Fault::Throw(w) = self { w } else { 0 }
-    }
-
-    pub(crate) fn is_none(self) -> bool
-        ensures { result ≡ is_none self }
-    {
-        self.number() == 0
     }
 }

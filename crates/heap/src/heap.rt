@@ -9,31 +9,10 @@ ghost use Rattle.heap.specs.Heap.{TableFits, slots_of, place_of, coro_of, Room, 
 ghost use Rattle.heap.specs.declared.object.Object.TheVariants.{Empty};
 
 use crate::fault::Fault;
-use crate::int::{Exact, Inline, IntTy};
+use crate::int::IntTy;
 use crate::object::{CoroObj, Object};
 use crate::slot;
-use crate::value::{Class, MOST64, Opt, Word};
-
-// The slot that a word names.
-#[derive(Clone, Copy)]
-pub enum Place {
-    Nothing,
-    At(usize),
-}
-
-// The coroutine that a word names, or the fault of a word that names none.
-#[derive(Clone, Copy)]
-pub enum Coroutine {
-    At(usize, CoroObj),
-    Not(Fault),
-}
-
-// Its place alone.
-#[derive(Clone, Copy)]
-pub enum CoroPlace {
-    At(usize),
-    Not(Fault),
-}
+use crate::value::{Class, MOST64, Word};
 
 // heap.rs: Heap, as numbers: slots taken, slots there are, bytes charged, and the memory limit.
 #[derive(Clone, Copy)]
@@ -42,19 +21,6 @@ pub struct Heap {
     pub slots: usize,
     pub used: u64,
     pub limit: u64,
-}
-
-#[derive(Clone, Copy)]
-pub enum Charged {
-    Done(Heap),
-    OutOfMemory,
-}
-
-// What an allocation or a conversion answers.
-#[derive(Clone, Copy)]
-pub enum Made {
-    Done(Word, Heap),
-    Refused(Fault),
 }
 
 // 01: "Result kinds: none, dynamic word, i64, u64."
@@ -67,53 +33,53 @@ pub enum ResultKind {
 }
 
 // heap.rs: get.
-pub fn get(slots: &[u64], count: usize, w: Word) -> Place
+pub fn get(slots: &[u64], count: usize, w: Word) -> Option<usize>
     requires { TableFits slots.now count }
     ensures { result ≡ get Empty is_filled (slots_of count slots.now) w.0 }
 {
     let Class::Ref(o) = w.class() else {
-        return Place::Nothing;
+        return None;
     };
     let i = o.slot();
     if count <= i {
-        return Place::Nothing;
+        return None;
     }
     if slot::tag_at(slots, i) != o.tag() {
-        return Place::Nothing;
+        return None;
     }
     if slot::filled_at(slots, i) {
-        Place::At(i)
+        Some(i)
     } else {
-        Place::Nothing
+        None
     }
 }
 
 // heap.rs: coro, or coll: not_a; where the coroutine stands.
-pub fn coro_place(slots: &[u64], count: usize, w: Word) -> CoroPlace
+pub fn coro_place(slots: &[u64], count: usize, w: Word) -> Result<usize, Fault>
     requires { TableFits slots.now count }
     ensures { result ≡ place_of (coro_of (slots_of count slots.now) w.0) }
 {
     match get(slots, count, w) {
-        Place::Nothing => CoroPlace::Not(not_a(slots, count, w)),
-        Place::At(i) => {
+        None => Err(not_a(slots, count, w)),
+        Some(i) => {
             if slot::is_coro(slots, i) {
-                return CoroPlace::At(i);
+                return Ok(i);
             }
-            CoroPlace::Not(Fault::TypeError)
+            Err(Fault::TypeError)
         }
     }
 }
 
 // heap.rs: coro, or coll: not_a.
-pub fn coro(slots: &[u64], count: usize, w: Word) -> Coroutine
+pub fn coro(slots: &[u64], count: usize, w: Word) -> Result<(usize, CoroObj), Fault>
     requires { TableFits slots.now count }
     ensures { result ≡ coro_of (slots_of count slots.now) w.0 }
 {
     match coro_place(slots, count, w) {
-        CoroPlace::Not(f) => Coroutine::Not(f),
-        CoroPlace::At(i) => {
+        Err(f) => Err(f),
+        Ok(i) => {
             let c = slot::coro_at(slots, i);
-            Coroutine::At(i, c)
+            Ok((i, c))
         }
     }
 }
@@ -126,8 +92,8 @@ pub fn not_a(slots: &[u64], count: usize, w: Word) -> Fault
     match w.class() {
         Class::Nil => Fault::NullReference,
         Class::Ref(_) => match get(slots, count, w) {
-            Place::Nothing => Fault::NullReference,
-            Place::At(_) => Fault::TypeError,
+            None => Fault::NullReference,
+            Some(_) => Fault::TypeError,
         },
         Class::Int(_) => Fault::TypeError,
         Class::Opaque => Fault::TypeError,
@@ -135,41 +101,41 @@ pub fn not_a(slots: &[u64], count: usize, w: Word) -> Fault
 }
 
 // The integer of an integer object.
-fn int_in(o: Object) -> Opt
+fn int_in(o: Object) -> Option<u64>
     ensures { result ≡ int_of o }
 {
     match o {
-        Object::Empty => Opt::None,
-        Object::Func(_) => Opt::None,
-        Object::Int(n) => Opt::Some(n),
+        Object::Empty => None,
+        Object::Func(_) => None,
+        Object::Int(n) => Some(n),
         Object::Iter {
             src: _,
             done: _,
             key: _,
-        } => Opt::None,
+        } => None,
         Object::Error {
             kind: _,
             func: _,
             pc: _,
             payload: _,
-        } => Opt::None,
-        Object::Coro(_) => Opt::None,
+        } => None,
+        Object::Coro(_) => None,
     }
 }
 
 // conv: dyn_int.
-pub fn dyn_int(slots: &[u64], count: usize, w: Word) -> Opt
+pub fn dyn_int(slots: &[u64], count: usize, w: Word) -> Option<u64>
     requires { TableFits slots.now count }
     ensures { result ≡ dyn_int_of Empty is_filled int_of (slots_of count slots.now) w.0 }
 {
     match w.class() {
-        Class::Nil => Opt::None,
+        Class::Nil => None,
         Class::Ref(o) => match get(slots, count, Word(o.0)) {
-            Place::Nothing => Opt::None,
-            Place::At(i) => int_in(slot::object_at(slots, i)),
+            None => None,
+            Some(i) => int_in(slot::object_at(slots, i)),
         },
-        Class::Int(n) => Opt::Some(n),
-        Class::Opaque => Opt::None,
+        Class::Int(n) => Some(n),
+        Class::Opaque => None,
     }
 }
 
@@ -189,49 +155,45 @@ impl Heap {
     }
 
     // heap.rs: charge.
-    pub fn charge(self, bytes: u64) -> Charged
+    pub fn charge(self, bytes: u64) -> Result<Heap, Fault>
         ensures { result ≡ charge_of self bytes }
     {
         if self.fits(bytes) {
-            Charged::Done(Heap {
+            Ok(Heap {
                 count: self.count,
                 slots: self.slots,
                 used: sat_add(self.used, bytes),
                 limit: self.limit,
             })
         } else {
-            Charged::OutOfMemory
+            Err(Fault::OutOfMemory)
         }
     }
 
     // What an allocation lacks: memory (9), then a slot (14).
-    pub fn lacks(self, bytes: u64) -> Fault
+    pub fn lacks(self, bytes: u64) -> Result<(), Fault>
         ensures { result ≡ lacks_of self bytes }
     {
-        if self.fits(bytes) {
-            if self.count < self.slots {
-                Fault::None
-            } else {
-                Fault::Full
-            }
+        if !self.fits(bytes) {
+            return Err(Fault::OutOfMemory);
+        }
+        if self.count < self.slots {
+            Ok(())
         } else {
-            Fault::OutOfMemory
+            Err(Fault::Full)
         }
     }
 }
 
 // heap.rs: alloc.
-pub fn alloc(slots: &mut [u64], h: Heap, bytes: u64, o: Object) -> Made
+pub fn alloc(slots: &mut [u64], h: Heap, bytes: u64, o: Object) -> Result<(Word, Heap), Fault>
     requires { Room slots.old h }
     ensures { out result slots.new ≡ alloc_of slots.old h bytes o }
 {
-    let fault = h.lacks(bytes);
-    if !fault.is_none() {
-        return Made::Refused(fault);
-    }
+    h.lacks(bytes)?;
     let i = h.count;
     slot::put_slot(slots, i, 0, o);
-    Made::Done(
+    Ok((
         Word::reference(i as u32, 0),
         Heap {
             count: i + 1,
@@ -239,38 +201,50 @@ pub fn alloc(slots: &mut [u64], h: Heap, bytes: u64, o: Object) -> Made
             used: sat_add(h.used, bytes),
             limit: h.limit,
         },
-    )
+    ))
 }
 
 // conv: encode_int; `bytes` is the cost of an integer object.
-pub fn encode_int(slots: &mut [u64], h: Heap, bytes: u64, n: u64) -> Made
+pub fn encode_int(slots: &mut [u64], h: Heap, bytes: u64, n: u64) -> Result<(Word, Heap), Fault>
     requires { Room slots.old h }
     ensures { out result slots.new ≡ encode_of slots.old h bytes n }
 {
     match Word::inline_int(n) {
-        Inline::At(w) => Made::Done(w, h),
-        Inline::Large => alloc(slots, h, bytes, Object::Int(n)),
+        Some(w) => Ok((w, h)),
+        None => alloc(slots, h, bytes, Object::Int(n)),
     }
 }
 
-fn int_to_dyn(slots: &mut [u64], h: Heap, bytes: u64, ty: IntTy, n: u64) -> Made
+fn int_to_dyn(
+    slots: &mut [u64],
+    h: Heap,
+    bytes: u64,
+    ty: IntTy,
+    n: u64,
+) -> Result<(Word, Heap), Fault>
     requires { Room slots.old h }
     ensures { out result slots.new ≡ int_by (exactly (value_of ty n)) slots.old h bytes }
 {
     match crate::int::value(ty, n) {
-        Exact::Fits(v) => encode_int(slots, h, bytes, v),
-        Exact::Over => Made::Refused(Fault::ArithOverflow),
+        Some(v) => encode_int(slots, h, bytes, v),
+        None => Err(Fault::ArithOverflow),
     }
 }
 
 // conv: to_dyn; `bytes` is the cost of an integer object.
-pub fn to_dyn(slots: &mut [u64], h: Heap, bytes: u64, kind: ResultKind, n: u64) -> Made
+pub fn to_dyn(
+    slots: &mut [u64],
+    h: Heap,
+    bytes: u64,
+    kind: ResultKind,
+    n: u64,
+) -> Result<(Word, Heap), Fault>
     requires { Room slots.old h }
     ensures { out result slots.new ≡ to_dyn kind slots.old h bytes n }
 {
     match kind {
-        ResultKind::None => Made::Done(Word::nil(), h),
-        ResultKind::Dyn => Made::Done(Word(n), h),
+        ResultKind::None => Ok((Word::nil(), h)),
+        ResultKind::Dyn => Ok((Word(n), h)),
         ResultKind::I64 => int_to_dyn(slots, h, bytes, IntTy::I64, n),
         ResultKind::U64 => int_to_dyn(slots, h, bytes, IntTy::U64, n),
     }

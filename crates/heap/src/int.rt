@@ -3,7 +3,7 @@ ghost use Rattle.std.specs.Prelude.{◌≡◌, max};
 ghost use Rattle.heap.specs.Coding.{of_bits};
 ghost use Rattle.heap.specs.Int.{value_of, exactly, next_key, less_bits};
 
-use crate::value::{MOST64, Word};
+use crate::value::MOST64;
 
 // The sign in 64 bits of two's complement; the largest integer, and -1.
 const SIGN: u64 = 0x8000_0000_0000_0000;
@@ -19,53 +19,33 @@ pub enum IntTy {
     U64,
 }
 
-// An integer of 64 bits, or one that is out of their range.
-#[derive(Clone, Copy)]
-pub enum Exact {
-    Fits(u64),
-    Over,
-}
-
-// An integer's word, where it is inline.
-#[derive(Clone, Copy)]
-pub enum Inline {
-    At(Word),
-    Large,
-}
-
 // The larger of two numbers.
 pub fn larger(a: u64, b: u64) -> u64
     ensures { result ≡ max a b }
 {
-    if a <= b { b } else { a }
+    a.max(b)
 }
 
 // int.rs: value. The value of register bits read at a type, as an i64. The Rust gives an i128, and uses only whether the value fits.
-pub fn value(ty: IntTy, bits: u64) -> Exact
+pub fn value(ty: IntTy, bits: u64) -> Option<u64>
     ensures { result ≡ exactly (value_of ty bits) }
 {
     match ty {
-        IntTy::I64 => Exact::Fits(bits),
-        IntTy::U64 => {
-            if bits < SIGN {
-                Exact::Fits(bits)
-            } else {
-                Exact::Over
-            }
-        }
+        IntTy::I64 => Some(bits),
+        IntTy::U64 => { if bits < SIGN { Some(bits) } else { None } }
     }
 }
 
 // coro.rs: auto_key's next key.
-pub fn next_key(largest: u64) -> Exact
+pub fn next_key(largest: u64) -> Option<u64>
     ensures { result ≡ next_key largest }
 {
     if largest == MOST_INT {
-        Exact::Over
+        None
     } else if largest == MINUS_ONE {
-        Exact::Fits(0)
+        Some(0)
     } else {
-        Exact::Fits(largest + 1)
+        Some(largest + 1)
     }
 }
 
@@ -73,9 +53,9 @@ pub fn next_key(largest: u64) -> Exact
 pub fn less(a: u64, b: u64) -> bool
     ensures { result ≡ less_bits a b }
 {
-    if a < SIGN {
-        if b < SIGN { a < b } else { false }
+    if (a < SIGN) == (b < SIGN) {
+        a < b
     } else {
-        if b < SIGN { true } else { a < b }
+        b < SIGN
     }
 }

@@ -6,38 +6,31 @@ ghost use Rattle.heap.specs.Kind.{as_callee, callee_of, done_of};
 
 use crate::fault::Fault;
 use crate::field::{flag_at, word_at};
-use crate::heap::{Place, get, not_a};
+use crate::heap::{get, not_a};
 use crate::layout;
 use crate::value::Word;
 
-// The function that a word names, or the fault of a word that names none.
-#[derive(Clone, Copy)]
-pub enum Callable {
-    Func(u64),
-    Not(Fault),
-}
-
 // The function at place i.
-fn callee_at(slots: &[u64], i: usize) -> Callable
+fn callee_at(slots: &[u64], i: usize) -> Result<u64, Fault>
     requires { SlotFits slots.now i }
     ensures { result ≡ as_callee (slot_in slots.now i).object }
 {
     let kind = word_at(slots, i, layout::KIND);
     if kind == 1 {
-        return Callable::Func(word_at(slots, i, layout::FIRST));
+        return Ok(word_at(slots, i, layout::FIRST));
     }
-    Callable::Not(Fault::TypeError)
+    Err(Fault::TypeError)
 }
 
 // The function that a word names; coll: not_a.
-pub fn callee(slots: &[u64], count: usize, w: Word) -> Callable
+pub fn callee(slots: &[u64], count: usize, w: Word) -> Result<u64, Fault>
     requires { TableFits slots.now count }
     ensures { result ≡ callee_of (slots_of count slots.now) w.0 }
 {
-    match get(slots, count, w) {
-        Place::Nothing => Callable::Not(not_a(slots, count, w)),
-        Place::At(i) => callee_at(slots, i),
-    }
+    let Some(i) = get(slots, count, w) else {
+        return Err(not_a(slots, count, w));
+    };
+    callee_at(slots, i)
 }
 
 // Whether an iterator that is done stands at place i.
@@ -58,8 +51,8 @@ pub fn is_done(slots: &[u64], count: usize, w: Word) -> bool
     requires { TableFits slots.now count }
     ensures { result ≡ done_of (slots_of count slots.now) w.0 }
 {
-    match get(slots, count, w) {
-        Place::Nothing => false,
-        Place::At(n) => done_at(slots, n),
-    }
+    let Some(i) = get(slots, count, w) else {
+        return false;
+    };
+    done_at(slots, i)
 }

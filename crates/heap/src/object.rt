@@ -3,8 +3,6 @@ ghost use Rattle.std.specs.Prelude.{◌≡◌};
 ghost use Rattle.heap.specs.Object.{code_of, state_of};
 ghost use Rattle.heap.specs.State.{is_created, is_running, is_awaiting, is_returned};
 
-use crate::value::Opt;
-
 // 01: "State codes"
 #[derive(Clone, Copy)]
 pub enum CoroState {
@@ -47,56 +45,28 @@ impl CoroState {
     pub fn is_created(self) -> bool
         ensures { result ≡ is_created self }
     {
-        match self {
-            CoroState::Created => true,
-            CoroState::Running => false,
-            CoroState::Yielded => false,
-            CoroState::Awaiting => false,
-            CoroState::Returned => false,
-            CoroState::Failed => false,
-        }
+        matches!(self, CoroState::Created)
     }
 
     // Entered, and neither suspended nor ended since.
     pub fn is_running(self) -> bool
         ensures { result ≡ is_running self }
     {
-        match self {
-            CoroState::Created => false,
-            CoroState::Running => true,
-            CoroState::Yielded => false,
-            CoroState::Awaiting => false,
-            CoroState::Returned => false,
-            CoroState::Failed => false,
-        }
+        matches!(self, CoroState::Running)
     }
 
     // Suspended by an Await.
     pub fn is_awaiting(self) -> bool
         ensures { result ≡ is_awaiting self }
     {
-        match self {
-            CoroState::Created => false,
-            CoroState::Running => false,
-            CoroState::Yielded => false,
-            CoroState::Awaiting => true,
-            CoroState::Returned => false,
-            CoroState::Failed => false,
-        }
+        matches!(self, CoroState::Awaiting)
     }
 
     // Ended with a result.
     pub fn is_returned(self) -> bool
         ensures { result ≡ is_returned self }
     {
-        match self {
-            CoroState::Created => false,
-            CoroState::Running => false,
-            CoroState::Yielded => false,
-            CoroState::Awaiting => false,
-            CoroState::Returned => true,
-            CoroState::Failed => false,
-        }
+        matches!(self, CoroState::Returned)
     }
 }
 
@@ -140,7 +110,7 @@ pub enum Object {
     Iter {
         src: u64,
         done: bool,
-        key: Opt,
+        key: Option<u64>,
     },
     // heap.rs: ErrorObj; kind is 01's number
     Error {

@@ -43,10 +43,7 @@ fn coro_ok(s: &[u64]) -> bool
 pub fn between(w: u64, least: u64, most: u64) -> bool
     ensures { result ≡ (leb least w && leb w most) }
 {
-    if w < least {
-        return false;
-    }
-    w <= most
+    least <= w && w <= most
 }
 
 // Tag, kind and up to four fields are at most these, the first field at least `least`; zeros after them.

@@ -10,7 +10,6 @@ ghost use Rattle.heap.specs.declared.object.Object.TheVariants.{Iter, Coro};
 use crate::int::larger;
 use crate::layout;
 use crate::object::{CoroObj, CoroState, Object};
-use crate::value::Opt;
 
 // The words of a slot.
 pub const WIDTH: usize = 20;
@@ -52,12 +51,12 @@ fn object_of(s: &[u64]) -> Object
         3 => Object::Iter {
             src: s[layout::FIRST],
             done: s[layout::SECOND] != 0,
-            key: Opt::None,
+            key: None,
         },
         4 => Object::Iter {
             src: s[layout::FIRST],
             done: s[layout::SECOND] != 0,
-            key: Opt::Some(s[layout::THIRD]),
+            key: Some(s[layout::THIRD]),
         },
         5 => Object::Error {
             kind: s[layout::FIRST],
@@ -107,12 +106,12 @@ fn fields(tag: u64, kind: u64, a: u64, b: u64, c: u64, d: u64) -> [u64; WIDTH]
     ]
 }
 
-fn iter_words(tag: u64, src: u64, done: bool, key: Opt) -> [u64; WIDTH]
+fn iter_words(tag: u64, src: u64, done: bool, key: Option<u64>) -> [u64; WIDTH]
     ensures { result ≡ slot_words (slot tag (Iter src done key)) }
 {
     match key {
-        Opt::None => fields(tag, 3, src, done as u64, 0, 0),
-        Opt::Some(k) => fields(tag, 4, src, done as u64, k, 0),
+        None => fields(tag, 3, src, done as u64, 0, 0),
+        Some(k) => fields(tag, 4, src, done as u64, k, 0),
     }
 }
 

@@ -9,38 +9,23 @@ impl CoroState {
     pub fn is_suspended(self) -> bool
         ensures { result ≡ is_suspended self }
     {
-        match self {
-            CoroState::Yielded | CoroState::Awaiting => true,
-            CoroState::Created | CoroState::Running | CoroState::Returned | CoroState::Failed =>
-                false,
-        }
+        matches!(self, CoroState::Yielded | CoroState::Awaiting)
     }
 
     // CoroState::is_resumable: Created, Yielded or Awaiting.
     pub fn is_resumable(self) -> bool
         ensures { result ≡ is_resumable self }
     {
-        match self {
-            CoroState::Created => true,
-            CoroState::Running => false,
-            CoroState::Yielded => true,
-            CoroState::Awaiting => true,
-            CoroState::Returned => false,
-            CoroState::Failed => false,
-        }
+        matches!(
+            self,
+            CoroState::Created | CoroState::Yielded | CoroState::Awaiting
+        )
     }
 
     // Returned or Failed.
     pub fn is_finished(self) -> bool
         ensures { result ≡ is_finished self }
     {
-        match self {
-            CoroState::Created => false,
-            CoroState::Running => false,
-            CoroState::Yielded => false,
-            CoroState::Awaiting => false,
-            CoroState::Returned => true,
-            CoroState::Failed => true,
-        }
+        matches!(self, CoroState::Returned | CoroState::Failed)
     }
 }

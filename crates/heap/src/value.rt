@@ -4,8 +4,6 @@ ghost use Rattle.heap.specs.Coding.{of_bits};
 ghost use Rattle.heap.specs.Int.{inline_of};
 ghost use Rattle.heap.specs.Word.{nil, reference, class_of, slot_of, tag_of};
 
-use crate::int::Inline;
-
 // A word of the machine.
 #[derive(Clone, Copy)]
 pub struct Word(pub u64);
@@ -13,13 +11,6 @@ pub struct Word(pub u64);
 // value.rs: Obj, a handle to an object: a word that is a reference.
 #[derive(Clone, Copy)]
 pub struct Obj(pub u64);
-
-// Rust's Option<u64>.
-#[derive(Clone, Copy)]
-pub enum Opt {
-    None,
-    Some(u64),
-}
 
 // How many numbers 32 bits hold, 16, and 8.
 pub const BITS32: u64 = 0x1_0000_0000;
@@ -79,15 +70,15 @@ impl Word {
     }
 
     // dynv: inline_int. The word of an integer, given as its 64 bits of two's complement, where it has one.
-    pub fn inline_int(bits: u64) -> Inline
+    pub fn inline_int(bits: u64) -> Option<Word>
         ensures { result ≡ inline_of (of_bits 63 bits) }
     {
         if bits < Word::SIGN {
-            Inline::At(Word(Word::INT + bits))
+            Some(Word(Word::INT + bits))
         } else if bits < Word::LEAST {
-            Inline::Large
+            None
         } else {
-            Inline::At(Word(bits - Word::LOW))
+            Some(Word(bits - Word::LOW))
         }
     }
 

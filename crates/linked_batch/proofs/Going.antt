@@ -7,7 +7,7 @@ use native.Mathlib.Omega.{arith}
 use lib.ListN.{length}
 use Rattle.lists.specs.Pick.{pick_true, pick-false}
 use Rattle.lists.specs.Parts.{splice}
-use Rattle.heap.specs.declared.value.Opt.{Opt}
+use Rattle.std.specs.Prelude.{Option, Some, None}
 use Rattle.model.specs.declared.machine.Fuel.{Fuel}
 use Rattle.memory_world.specs.Memory.{Lent}
 use Rattle.memory_world.specs.declared.machine.Sizes.{Sizes}
@@ -30,12 +30,12 @@ use Rattle.linked_batch.specs.Batch.{One, BatchFits, Done}
 over-back : (h : Host) (s : MemoryState) → state_of (overwritten h s) ≡ s
 over-back h s = λ i. record { words = s.words; machine = machine-back h.machine s.machine i; fuel = fuel-back h.fuel s.fuel i }
 
-fuel-twice : (fs : List ℕ) (m n : ℕ) (a b : Opt) (p q : Bool) → let f : Fuel = record { fuel = m; bank = a; ready = p } in let g : Fuel = record { fuel = n; bank = b; ready = q } in
+fuel-twice : (fs : List ℕ) (m n : ℕ) (a b : Option ℕ) (p q : Bool) → let f : Fuel = record { fuel = m; bank = a; ready = p } in let g : Fuel = record { fuel = n; bank = b; ready = q } in
     splice (splice fs 0 (fuel_words f)) 0 (fuel_words g) ≡ splice fs 0 (fuel_words g)
-fuel-twice fs m n Opt.None Opt.None p q = refl
-fuel-twice fs m n Opt.None (Opt.Some y) p q = refl
-fuel-twice fs m n (Opt.Some x) Opt.None p q = refl
-fuel-twice fs m n (Opt.Some x) (Opt.Some y) p q = refl
+fuel-twice fs m n None None p q = refl
+fuel-twice fs m n None (Some y) p q = refl
+fuel-twice fs m n (Some x) None p q = refl
+fuel-twice fs m n (Some x) (Some y) p q = refl
 
 over-over : (h : Host) (s t : MemoryState) → overwritten (overwritten h s) t ≡ overwritten h t
 over-over h s t =

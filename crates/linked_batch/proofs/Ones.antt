@@ -22,7 +22,7 @@ use Rattle.machine_step.proofs.InRange.{word}
 use Rattle.memory_calls.specs.Call.{six, op_of, op_words}
 use Rattle.memory_calls.specs.Answer.{answer_words}
 use Rattle.memory_calls.specs.declared.call.Gate.{Gate}
-use Rattle.memory_calls.specs.declared.call.Read.{Read}
+use Rattle.std.specs.Prelude.{Result, Ok, Err}
 use Rattle.memory_calls.proofs.Back.{read_back}
 use Rattle.memory_calls.proofs.Reading.{as-six, other_length}
 use Rattle.memory_step.specs.Step.{is_sound}
@@ -53,7 +53,7 @@ yield-typed pc dst src a b d =
 
 -- ---- the words at place i
 
-pub no_call : (cs : List ℕ) (i : ℕ) → i * 6 ≤ length cs → length cs - i * 6 < 6 → Read.Not Gate.Operand ≡ read_in cs i
+pub no_call : (cs : List ℕ) (i : ℕ) → i * 6 ≤ length cs → length cs - i * 6 < 6 → Err Gate.Operand ≡ read_in cs i
 no_call cs i w h =
     let k = length-drop (i * 6) cs in
     let l : length (chunk_at 6 cs i) ≡ length (drop (i * 6) cs) = ap length (take_all 6 (drop (i * 6) cs) (omega arith)) in
@@ -67,7 +67,7 @@ pub words-read : {n a b c d e : ℕ} (cs : List ℕ) (i : ℕ) → i * 6 + 6 ≤
     n ≡ get_or ws 0 0 → a ≡ get_or ws 1 0 → b ≡ get_or ws 2 0 → c ≡ get_or ws 3 0 → d ≡ get_or ws 4 0 → e ≡ get_or ws 5 0 → op_of (six n a b c d e) ≡ read_in cs i
 words-read cs i full p q r s t u = (λ j. op_of (six (p j) (q j) (r j) (s j) (t j) (u j))) ∙ six-words cs i full
 
-pub of-read : {h h' : Host} {r r' : Read} {xs xs' : List ℕ} {i : ℕ} → r ≡ r' → One h r xs i h' xs' → One h r' xs i h' xs'
+pub of-read : {h h' : Host} {r r' : Result Op Gate} {xs xs' : List ℕ} {i : ℕ} → r ≡ r' → One h r xs i h' xs' → One h r' xs i h' xs'
 of-read {h} {h'} {xs = xs} {xs' = xs'} {i = i} e o = subst (λ z. One h z xs i h' xs') e o
 
 -- ---- a call
@@ -92,16 +92,16 @@ module _ (h : Host) (e : passes_test h ≡ true) where
 
   -- .. that was done on the words
   pub switch-one : (o : Op) → typed o ≡ true → each is_word (op_words o) ≡ true → (xs xs' : List ℕ) (i : ℕ) (h' : Host)
-      → gave h' (splice blank 0 (answer_words goes_on)) 0 ≡ kept_in h (Read.Is o) blank → xs' ≡ put_chunk 8 xs i (answer_words goes_on) → One h (op_of (op_words o)) xs i h' xs'
+      → gave h' (splice blank 0 (answer_words goes_on)) 0 ≡ kept_in h (Ok o) blank → xs' ≡ put_chunk 8 xs i (answer_words goes_on) → One h (op_of (op_words o)) xs i h' xs'
   switch-one o t w xs xs' i h' q put =
       let d = do_words (state_of h) (op_of (op_words o)) in
-      let r : gave h' (splice blank 0 (answer_words goes_on)) 0 ≡ kept_in h (op_of (op_words o)) blank = q ∙ ap (λ (z : Read). kept_in h z blank) (sym (read_back o t)) in
+      let r : gave h' (splice blank 0 (answer_words goes_on)) 0 ≡ kept_in h (op_of (op_words o)) blank = q ∙ ap (λ (z : Result Op Gate). kept_in h z blank) (sym (read_back o t)) in
       let is : h' ≡ overwritten h d.state = ap (λ (g : Gave). g.host) r in
       let said : answer_words goes_on ≡ answer_words d.answer = ap (λ (g : Gave). take 8 g.answer) r in
       record { host = is; answers = put ∙ ap (put_chunk 8 xs i) said; sound = ap passes_test is ∙ passes-again (op_words o) w }
 
   -- .. that is none
-  pub no_one : (xs xs' : List ℕ) (i : ℕ) (r : Read) → Read.Not Gate.Operand ≡ r → xs' ≡ put_chunk 8 xs i (answer_words (Answer.Refused Fault.BadOperand)) → One h r xs i h xs'
+  pub no_one : (xs xs' : List ℕ) (i : ℕ) (r : Result Op Gate) → Err Gate.Operand ≡ r → xs' ≡ put_chunk 8 xs i (answer_words (Answer.Refused Fault.BadOperand)) → One h r xs i h xs'
   no_one xs xs' i r n put =
       let k = holds h e 0 (omega arith) in
       let p = k.numbers in

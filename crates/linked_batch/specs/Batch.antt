@@ -1,8 +1,9 @@
 -- A call of a list on a machine in words that is known to be sound, its answer in the eight words at place i; and a list of them.
-use Rattle.std.specs.Prelude.{◌≡◌, true, List, ℕ, ◌+◌, ◌*◌, ◌^◌, ◌≤◌, ◌<◌, length}
+use Rattle.std.specs.Prelude.{◌≡◌, true, List, ℕ, ◌+◌, ◌*◌, ◌^◌, ◌≤◌, ◌<◌, length, Result}
 use Rattle.lists.specs.Chunks.{put_chunk}
 use Rattle.memory_calls.specs.Answer.{answer_words}
-use Rattle.memory_calls.specs.declared.call.Read.{Read}
+use Rattle.memory_calls.specs.declared.call.Gate.{Gate}
+use Rattle.model.specs.declared.call.Op.{Op}
 use Rattle.outer_run.specs.Run.{do_words, count_of, Listed}
 use Rattle.linked_calls.specs.Host.{Host, state_of, passes_test, overwritten}
 use Rattle.linked_batch.specs.declared.one.Route.{Route}
@@ -27,7 +28,7 @@ pub record OneFits (h : Host) (cs xs : List ℕ) (i : ℕ) : Type 0 where
   pub call : i * 6 ≤ length cs
 
 -- what `bvm_call_unchecked` leaves (boundary: kept_in), with the answer at its place; the machine is sound again
-pub record One (h : Host) (r : Read) (xs : List ℕ) (i : ℕ) (h' : Host) (xs' : List ℕ) : Type 0 where
+pub record One (h : Host) (r : Result Op Gate) (xs : List ℕ) (i : ℕ) (h' : Host) (xs' : List ℕ) : Type 0 where
   pub host : h' ≡ overwritten h (do_words (state_of h) r).state
   pub answers : xs' ≡ put_chunk 8 xs i (answer_words (do_words (state_of h) r).answer)
   pub sound : passes_test h' ≡ true

@@ -33,8 +33,7 @@ fn do_list(
         calls.now answers.old n
         (host (nine (of_mut stack) (of_mut frames) (of_mut chain) (of_mut slots) (of_mut saved_stack) (of_mut saved_frames) (of_mut ready) (of_mut finalize) (of_ref setup) at_exit) (at_exit (of_mut machine)) (at_exit (of_mut fuel))) answers.new }
 {
-    let mut i = 0;
-    while i < n {
+    for i in 0..n {
         one(
             stack,
             frames,
@@ -51,7 +50,6 @@ fn do_list(
             answers,
             i,
         );
-        i += 1;
     }
 }
 

@@ -16,8 +16,8 @@ use heap::value::MOST32;
 use linked_calls::call::bvm_call_unchecked;
 use linked_calls::numbers::FUEL;
 use linked_switch::answer::goes_on;
-use linked_switch::enters::{Enters, may_enter};
-use linked_switch::leaves::{Sleeper, may_leave};
+use linked_switch::enters::may_enter;
+use linked_switch::leaves::may_leave;
 use linked_switch::resume::resume_at;
 use linked_switch::yielding::yield_at;
 use memory_calls::answer::ANSWER_WIDTH;
@@ -117,7 +117,7 @@ fn resume_call(
         (host (nine (of_mut stack) (of_mut frames) (of_mut chain) (of_mut slots) (of_mut saved_stack) (of_mut saved_frames) (of_mut ready) (of_mut finalize) (of_ref setup) at_exit) (at_exit (of_mut machine)) (at_exit (of_mut fuel))) answers.new }
 {
     match may_enter(stack, frames, slots, machine, fuel[FUEL], dst, c, src) {
-        Enters::At(k, v) => {
+        Some((k, v)) => {
             resume_at(
                 stack,
                 frames,
@@ -136,7 +136,7 @@ fn resume_call(
             );
             goes_on_at(answers, i);
         }
-        Enters::Not => general_at(
+        None => general_at(
             stack,
             frames,
             chain,
@@ -185,7 +185,7 @@ fn yield_call(
         (host (nine (of_mut stack) (of_mut frames) (of_mut chain) (of_mut slots) (of_mut saved_stack) (of_mut saved_frames) (of_mut ready) (of_mut finalize) (of_ref setup) at_exit) (at_exit (of_mut machine)) (at_exit (of_mut fuel))) answers.new }
 {
     match may_leave(frames, chain, slots, machine, fuel[FUEL], dst, src) {
-        Sleeper::At(k, to, key, largest) => {
+        Some(s) => {
             yield_at(
                 stack,
                 frames,
@@ -198,14 +198,14 @@ fn yield_call(
                 pc,
                 dst,
                 src,
-                k,
-                to,
-                key,
-                largest,
+                s.slot,
+                s.to,
+                s.key,
+                s.largest,
             );
             goes_on_at(answers, i);
         }
-        Sleeper::Not => general_at(
+        None => general_at(
             stack,
             frames,
             chain,

@@ -21,7 +21,9 @@ use Rattle.machine_state.specs.declared.called.Called.{Called}
 use Rattle.memory_world.specs.Words.{sizes_of}
 use Rattle.memory_world.specs.Decode.{setup_of}
 use Rattle.memory_calls.specs.Answer.{answer_words}
-use Rattle.memory_calls.specs.declared.call.Read.{Read}
+use Rattle.std.specs.Prelude.{Result}
+use Rattle.memory_calls.specs.declared.call.Gate.{Gate}
+use Rattle.model.specs.declared.call.Op.{Op}
 use Rattle.memory_step.specs.Step.{MemoryState, Left, is_sound}
 use Rattle.outer_call.specs.State.{state, gives, SoundFits}
 use Rattle.outer_run.specs.Run.{do_words, Reads}
@@ -121,7 +123,7 @@ module _ (h : Host) (e : passes_test h ≡ true) where
   may_read m f l a b c = record { sound = (λ i. is_sound (state h.words (a i) (b i))) ∙ sound; sizes = c ∙ sizes }
 
 -- what a call leaves, in words
-pub left_in : (h : Host) (r : Read) (xs : List ℕ) (m : Machine) (f : Fuel) (k : Read) (M' : Lent) (d : Called) (ms' fs' xs' : List ℕ) (n : ℕ)
+pub left_in : (h : Host) (r : Result Op Gate) (xs : List ℕ) (m : Machine) (f : Fuel) (k : Result Op Gate) (M' : Lent) (d : Called Answer) (ms' fs' xs' : List ℕ) (n : ℕ)
     → m ≡ machine_in h.machine → f ≡ fuel_in h.fuel → k ≡ r → Reads (state h.words m f) k (gives M' d)
     → ms' ≡ splice h.machine 0 (machine_words d.machine) → fs' ≡ splice h.fuel 0 (fuel_words d.fuel) → xs' ≡ splice xs 0 (answer_words d.answer) → n ≡ number_of d.answer
     → gave (host M' ms' fs') xs' n ≡ kept_in h r xs
@@ -132,7 +134,7 @@ left_in h r xs m f k M' d ms' fs' xs' n a b c did e₁ e₂ e₃ e₄ =
 
 -- ---- by the test
 
-module _ (h : Host) (r : Read) (xs : List ℕ) (g : Gave) where
+module _ (h : Host) (r : Result Op Gate) (xs : List ℕ) (g : Gave) where
   pub done : (ok : Bool) → ok ≡ true → g ≡ kept_in h r xs → g ≡ do_in ok h r xs
   done ok e q = q ∙ sym (ap (λ b. do_in b h r xs) e ∙ pick_true _ _)
 

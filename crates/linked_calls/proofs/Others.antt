@@ -29,7 +29,8 @@ use Rattle.machine_added.specs.Look.{end_on}
 use Rattle.machine_added.specs.declared.look.Span.{Span}
 use Rattle.machine_added.specs.declared.fuel.GrantDid.{GrantDid}
 use Rattle.memory_calls.specs.Answer.{answer_words}
-use Rattle.memory_calls.specs.declared.call.Read.{Read}
+use Rattle.std.specs.Prelude.{Result, Ok}
+use Rattle.memory_calls.specs.declared.call.Gate.{Gate}
 use Rattle.memory_step.specs.Step.{MemoryState, Left, refuses, is_sound, decoded, looked, step_words, set_up_ok, set_up_words}
 use Rattle.outer_call.specs.State.{state, gives}
 use Rattle.outer_call.specs.SetUp.{begins}
@@ -45,13 +46,13 @@ use Rattle.linked_calls.proofs.Hosts.{sound, done, refused, called, too_short}
 
 -- ---- a grant
 
-granted-by : (h : Host) (n : ℕ) (xs : List ℕ) (g : Gave) → g ≡ call_in h (Read.Is (Op.Grant n)) xs → (fs' xs' : List ℕ) (r : ℕ) → fs' ≡ g.host.fuel → xs' ≡ g.answer → r ≡ g.number → Granted h n xs fs' xs' r
+granted-by : (h : Host) (n : ℕ) (xs : List ℕ) (g : Gave) → g ≡ call_in h (Ok (Op.Grant n)) xs → (fs' xs' : List ℕ) (r : ℕ) → fs' ≡ g.host.fuel → xs' ≡ g.answer → r ≡ g.number → Granted h n xs fs' xs' r
 granted-by h n xs g q fs' xs' r a b c =
     record { fuel = a ∙ ap (λ (x : Gave). x.host.fuel) q; answer = b ∙ ap (λ (x : Gave). x.answer) q; number = c ∙ ap (λ (x : Gave). x.number) q }
 
 module _ (h : Host) (n : ℕ) (xs : List ℕ) where
-  abbrev read : Read
-  read = Read.Is (Op.Grant n)
+  abbrev read : Result Op Gate
+  read = Ok (Op.Grant n)
 
   pub grant-short : length xs < 8 → (ok : Bool) → ok ≡ passes_test h → (r : ℕ) → r ≡ short ok → Granted h n xs h.fuel xs r
   grant-short w ok known r e =
@@ -139,7 +140,7 @@ module _ (h : Host) (e : passes_test h ≡ true) (m : Machine) (f : Fuel) (is : 
 -- ---- a set-up
 
 -- what `set_up` gave, of the numbers and the fuel read, and the number told
-pub record Tried (h : Host) (given : List ℕ) (M' : Lent) (d : Called) (n : ℕ) : Type 0 where
+pub record Tried (h : Host) (given : List ℕ) (M' : Lent) (d : Called Answer) (n : ℕ) : Type 0 where
   pub machine : Machine
   pub fuel : Fuel
   pub machine-is : machine ≡ machine_in h.machine
@@ -151,7 +152,7 @@ module _ (h : Host) (given xs : List ℕ) where
   abbrev ok-words : Bool
   ok-words = set_up_ok given h.words
 
-  module _ {M' : Lent} {d : Called} {n : ℕ} (t : Tried h given M' d n) where
+  module _ {M' : Lent} {d : Called Answer} {n : ℕ} (t : Tried h given M' d n) where
     made : gives M' d ≡ set_up_words (state_of h) given
     made = t.did ∙ (λ i. set_up_words (state h.words (t.machine-is i) (t.fuel-is i)) given)
 

@@ -1,5 +1,5 @@
 -- A machine whose numbers and fuel are in words too: when it is sound, and what a call leaves of it.
-use Rattle.std.specs.Prelude.{◌≡◌, Bool, true, ◌&&◌, ◌||◌, List, [], ◌∷◌, ℕ, ◌*◌, ◌≤◌, length, get_or, eqb, leb}
+use Rattle.std.specs.Prelude.{◌≡◌, Bool, true, ◌&&◌, ◌||◌, List, [], ◌∷◌, ℕ, ◌*◌, ◌≤◌, length, get_or, eqb, leb, Result, Ok}
 use Rattle.lists.specs.Pick.{pick}
 use Rattle.lists.specs.Parts.{splice}
 use Rattle.heap.specs.declared.fault.Fault.{Fault}
@@ -14,7 +14,7 @@ use Rattle.memory_world.specs.Words.{Lengths, lengths_of, sizes_of}
 use Rattle.memory_world.specs.Decode.{setup_of}
 use Rattle.memory_world.specs.Sizes.{SetupFits}
 use Rattle.memory_calls.specs.Answer.{answer_words}
-use Rattle.memory_calls.specs.declared.call.Read.{Read}
+use Rattle.memory_calls.specs.declared.call.Gate.{Gate}
 use Rattle.machine_added.specs.Look.{end_on}
 use Rattle.machine_added.specs.declared.look.Span.{Span}
 use Rattle.memory_step.specs.Step.{MemoryState, is_sound, decoded, set_up_ok, set_up_words}
@@ -79,26 +79,26 @@ abbrev pub overwritten : Host → MemoryState → Host
 overwritten h s = host s.words (splice h.machine 0 (machine_words s.machine)) (splice h.fuel 0 (fuel_words s.fuel))
 
 -- a call in words, on a sound machine
-abbrev pub kept_in : Host → Read → List ℕ → Gave
+abbrev pub kept_in : Host → Result Op Gate → List ℕ → Gave
 kept_in h r xs = let d = do_words (state_of h) r in tells (overwritten h d.state) d.answer xs
 
 -- everything as found, and 11
-abbrev pub do_in : Bool → Host → Read → List ℕ → Gave
+abbrev pub do_in : Bool → Host → Result Op Gate → List ℕ → Gave
 do_in ok h r xs = pick ok (kept_in h r xs) (tells h (Answer.Refused Fault.Unsound) xs)
 
 -- without room for the answer only a number is returned: 11 first, then 14
 abbrev pub short : Bool → ℕ
 short ok = pick ok 14 11
 
-unfoldable pub call_in : Host → Read → List ℕ → Gave
+unfoldable pub call_in : Host → Result Op Gate → List ℕ → Gave
 call_in h r xs = pick (leb 8 (length xs)) (do_in (passes_test h) h r xs) (gave h xs (short (passes_test h)))
 
 -- ---- a grant: the call, of which the fuel's words and the answer are written
 
 pub record Granted (h : Host) (n : ℕ) (xs fs' xs' : List ℕ) (r : ℕ) : Type 0 where
-  pub fuel : fs' ≡ (call_in h (Read.Is (Op.Grant n)) xs).host.fuel
-  pub answer : xs' ≡ (call_in h (Read.Is (Op.Grant n)) xs).answer
-  pub number : r ≡ (call_in h (Read.Is (Op.Grant n)) xs).number
+  pub fuel : fs' ≡ (call_in h (Ok (Op.Grant n)) xs).host.fuel
+  pub answer : xs' ≡ (call_in h (Ok (Op.Grant n)) xs).answer
+  pub number : r ≡ (call_in h (Ok (Op.Grant n)) xs).number
 
 -- ---- a look: where the top frame's registers begin and end on the stack, 0 and 0 without a frame
 

@@ -1,8 +1,7 @@
 -- What is passed by value inside, in lent words: a machine's numbers in 13, its set-up's sizes in the 12 after them, the fuel in four.
-use Rattle.std.specs.Prelude.{List, [], ◌∷◌, ℕ, get_or, eqb}
+use Rattle.std.specs.Prelude.{List, [], ◌∷◌, ℕ, get_or, eqb, Option, Some, None}
 use Rattle.lists.specs.Pick.{pick}
 use Rattle.heap.specs.Slot.{flag, is_set}
-use Rattle.heap.specs.declared.value.Opt.{Opt}
 use Rattle.model.specs.declared.machine.Fuel.{Fuel}
 use Rattle.memory_world.specs.declared.machine.Machine.{Machine}
 use Rattle.memory_world.specs.declared.machine.Sizes.{Sizes}
@@ -50,15 +49,15 @@ sizes_in ws =
 
 -- ---- the fuel: what is left, whether some is set aside, how much, whether a cleanup is ready
 
-abbrev pub bank_words : Opt → ℕ → List ℕ
-bank_words Opt.None r = 0 ∷ 0 ∷ r ∷ []
-bank_words (Opt.Some n) r = 1 ∷ n ∷ r ∷ []
+abbrev pub bank_words : Option ℕ → ℕ → List ℕ
+bank_words None r = 0 ∷ 0 ∷ r ∷ []
+bank_words (Some n) r = 1 ∷ n ∷ r ∷ []
 
 abbrev pub fuel_words : Fuel → List ℕ
 fuel_words f = f.fuel ∷ bank_words f.bank (flag f.ready)
 
-abbrev pub bank_of : ℕ → ℕ → Opt
-bank_of n a = pick (eqb n 0) Opt.None (Opt.Some a)
+abbrev pub bank_of : ℕ → ℕ → Option ℕ
+bank_of n a = pick (eqb n 0) None (Some a)
 
 abbrev pub fuel_in : List ℕ → Fuel
 fuel_in ws = record { fuel = get_or ws 0 0; bank = bank_of (get_or ws 1 0) (get_or ws 2 0); ready = is_set (get_or ws 3 0) }

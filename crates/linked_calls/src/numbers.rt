@@ -4,7 +4,6 @@ ghost use Rattle.lists.specs.Parts.{splice};
 ghost use Rattle.heap.specs.Slot.{flag};
 ghost use Rattle.linked_calls.specs.Words.{machine_words, machine_in, sizes_in, bank_of, bank_words, fuel_in, fuel_words};
 
-use heap::value::Opt;
 use memory_world::machine::{Machine, Sizes, Told};
 use model::machine::Fuel;
 use model::program::Costs;
@@ -145,13 +144,13 @@ pub(crate) fn sizes_of(ws: &[u64]) -> Sizes
     }
 }
 
-fn bank_of(code: u64, a: u64) -> Opt
+fn bank_of(code: u64, a: u64) -> Option<u64>
     ensures { result ≡ bank_of code a }
 {
     if code == 0 {
-        return Opt::None;
+        return None;
     }
-    Opt::Some(a)
+    Some(a)
 }
 
 // The fuel that the words hold.
@@ -171,12 +170,12 @@ pub(crate) fn fuel_of(ws: &[u64]) -> Fuel
 #[derive(Clone, Copy)]
 struct BankWords(u64, u64, u64);
 
-fn told_bank(bank: Opt, ready: bool) -> BankWords
+fn told_bank(bank: Option<u64>, ready: bool) -> BankWords
     ensures { result.0 ∷ result.1 ∷ result.2 ∷ [] ≡ bank_words bank (flag ready) }
 {
     match bank {
-        Opt::None => BankWords(0, 0, ready as u64),
-        Opt::Some(n) => BankWords(1, n, ready as u64),
+        None => BankWords(0, 0, ready as u64),
+        Some(n) => BankWords(1, n, ready as u64),
     }
 }
 

@@ -5,7 +5,7 @@ use Prim.Native.Nat.{ℕ, ◌+◌, ◌*◌, ◌^◌, ◌≤◌, ◌<◌}
 use lib.ListN.{length}
 use Rattle.heap.specs.Heap.{SlotFits, slots_of, coro_of}
 use Rattle.heap.specs.declared.fault.Fault.{Fault}
-use Rattle.heap.specs.declared.heap.Coroutine.TheVariants as RV
+use Rattle.std.specs.Prelude.{Ok}
 use Rattle.heap.proofs.Place.{stands}
 use Rattle.memory_world.specs.Memory.{Lent}
 use Rattle.memory_world.specs.Lendings.{lent}
@@ -26,18 +26,18 @@ module _ {stack frames chain slots saved_stack saved_frames ms : List ℕ} {v i 
   abbrev mem : Lent
   mem = lent stack frames chain slots saved_stack saved_frames h.ok.beside
 
-  pub found : RV.At i (record_at slots i) ≡ coro_of (slots_of (machine_in ms).count slots) v
+  pub found : Ok (i, record_at slots i) ≡ coro_of (slots_of (machine_in ms).count slots) v
   found = (stands (machine_in ms).count slots v i h.may.found).coro
 
-  pub sum : Sums (sizes_in ms) mem (machine_in ms) h.ok.beside.fuel v h.ok.world h.ok.rep i (record_at slots i) found h.ok.sound Fault.None h.may.fits refl
+  pub sum : Sums (sizes_in ms) mem (machine_in ms) h.ok.beside.fuel v h.ok.world h.ok.rep i (record_at slots i) found h.ok.sound tt h.may.fits
   sum =
       let ok = h.ok in
-      sums (sizes_in ms) mem (machine_in ms) ok.beside.fuel v ok.world ok.rep i (record_at slots i) found ok.sound Fault.None h.may.fits refl ok.room
+      sums (sizes_in ms) mem (machine_in ms) ok.beside.fuel v ok.world ok.rep i (record_at slots i) found ok.sound tt h.may.fits ok.room
 
   pub fit : length stack < 2 ^ 64 → MoveFits stack frames saved_stack saved_frames (machine_in ms).height (machine_in ms).depth (sizes_in ms) (record_at slots i)
   fit =
       let ok = h.ok in
-      move-fits (sizes_in ms) mem (machine_in ms) ok.beside.fuel v ok.world ok.rep i (record_at slots i) found ok.sound Fault.None h.may.fits refl ok.room
+      move-fits (sizes_in ms) mem (machine_in ms) ok.beside.fuel v ok.world ok.rep i (record_at slots i) found ok.sound tt h.may.fits ok.room
 
 module _ {stack frames chain slots saved_stack saved_frames ms : List ℕ} {i floor base : ℕ} (h : LeaveAtFits stack frames chain slots saved_stack saved_frames ms i floor base) where
   abbrev words : Lent

@@ -10,7 +10,7 @@ use borrow.Author.Tests.{eqb-true, leb-true}
 use Rattle.lists.specs.Pick.{pick, pick_true, pick-false}
 use Rattle.lists.specs.Parts.{splice}
 use Rattle.heap.specs.Slot.{flag, is_set}
-use Rattle.heap.specs.declared.value.Opt.{Opt}
+use Rattle.std.specs.Prelude.{Option, Result, Some, None}
 use Rattle.model.specs.declared.call.Op.{Op}
 use Rattle.claims_sound.proofs.Tests.{no_false, and_left, and_right}
 use Rattle.claims_sound.proofs.Sound.{Sound, sound→}
@@ -20,7 +20,6 @@ use Rattle.memory_world.specs.Contract.{Ok, Gives, if_sound, with}
 use Rattle.memory_world.proofs.Does.{SameLengths}
 use Rattle.machine_step.specs.Kept.{did}
 use Rattle.memory_calls.specs.Answer.{answer_words}
-use Rattle.memory_calls.specs.declared.call.Read.{Read}
 use Rattle.memory_step.specs.Step.{Left, left, step_words}
 use Rattle.outer_call.specs.State.{state}
 use Rattle.outer_call.proofs.Stepping.{may-call, stepped}
@@ -67,11 +66,11 @@ tells-bank b a r h = go (eqb b 1) refl h
     go : (t : Bool) → eqb b 1 ≡ t → (t || eqb b 0 && eqb a 0) ≡ true → b ∷ a ∷ r ∷ [] ≡ bank_words (bank_of b a) r
     go true e k =
         let z = eqb-true b 1 e in
-        ap (λ x. x ∷ a ∷ r ∷ []) z ∙ sym (ap (λ x. bank_words (bank_of x a) r) z ∙ ap (λ (y : Opt). bank_words y r) (pick-false Opt.None (Opt.Some a)))
+        ap (λ x. x ∷ a ∷ r ∷ []) z ∙ sym (ap (λ x. bank_words (bank_of x a) r) z ∙ ap (λ (y : Option ℕ). bank_words y r) (pick-false None (Some a)))
     go false e k =
         let y = eqb-true b 0 (and_left (eqb b 0) (eqb a 0) k) in
         let z = eqb-true a 0 (and_right (eqb b 0) (eqb a 0) k) in
-        ap₂ (λ p q. p ∷ q ∷ r ∷ []) y z ∙ sym (ap₂ (λ p q. bank_words (bank_of p q) r) y z ∙ ap (λ (x : Opt). bank_words x r) (pick_true Opt.None (Opt.Some 0)))
+        ap₂ (λ p q. p ∷ q ∷ r ∷ []) y z ∙ sym (ap₂ (λ p q. bank_words (bank_of p q) r) y z ∙ ap (λ (x : Option ℕ). bank_words x r) (pick_true None (Some 0)))
 
 abbrev Fuels : List ℕ → Type 0
 Fuels ws = get_or ws 3 0 ≤ 1 → (eqb (get_or ws 1 0) 1 || eqb (get_or ws 1 0) 0 && eqb (get_or ws 2 0) 0) ≡ true → Fuelled ws ws
@@ -161,7 +160,7 @@ module _ (h : Host) (e : passes_test h ≡ true) where
     pub went-in : SameLengths h.words left-words
         → Went o (lent h.words.stack h.words.frames h.words.chain h.words.slots h.words.saved_stack h.words.saved_frames)
         (lent stack' frames' chain' slots' saved_stack' saved_frames') ms fs ms' fs'
-        → xs' ≡ splice xs 0 (answer_words goes_on) → gave (host left-words ms' fs') xs' 0 ≡ kept_in h (Read.Is o) xs
+        → xs' ≡ splice xs 0 (answer_words goes_on) → gave (host left-words ms' fs') xs' 0 ≡ kept_in h (Result.Ok o) xs
     went-in same w told =
         let m = machine_in ms in
         let f = fuel_in fs in

@@ -12,9 +12,7 @@ use Rattle.lists.proofs.Tests.{never}
 use Rattle.heap.specs.Coding.{of_bits}
 use Rattle.heap.specs.Int.{inline_of, next_key}
 use Rattle.heap.specs.declared.fault.Fault.{Fault}
-use Rattle.heap.specs.declared.heap.CoroPlace.TheVariants as L
-use Rattle.heap.specs.declared.int.Exact.{Exact}
-use Rattle.heap.specs.declared.int.Inline.{Inline}
+use Rattle.std.specs.Prelude.{Option, Some, None, Ok, Err}
 use Rattle.model.specs.declared.machine.Active.{Active}
 use Rattle.model.specs.declared.machine.Driver.{Driver}
 use Rattle.model.specs.contracts.machine.Driver as Driver'
@@ -45,48 +43,52 @@ base frames chain ms = base_in frames (inner chain ms).floor
 module _ {frames chain slots ms : List ℕ} {fuel dst src : ℕ} where
   -- ---- a test that is not passed
 
-  refused : (n : ℕ) → get_or (leave_tests frames chain slots ms fuel dst src) n true ≡ false → Leaving frames chain slots ms fuel dst src Sleeper.Not
+  refused : (n : ℕ) → get_or (leave_tests frames chain slots ms fuel dst src) n true ≡ false → Leaving frames chain slots ms fuel dst src None
   unfolding may_leave
-  refused n e = record { at = λ i t k l q. never cc; told = sym (fails (leave_tests frames chain slots ms fuel dst src) n e) }
+  refused n e = record { at = λ s q. never cc; told = sym (fails (leave_tests frames chain slots ms fuel dst src) n e) }
 
-  pub no-frame : (machine_in ms).depth ≡ 0 → Leaving frames chain slots ms fuel dst src Sleeper.Not
+  -- the None of a `?`
+  pub as-none : {r : Option Sleeper} → r ≡ None → Leaving frames chain slots ms fuel dst src None → Leaving frames chain slots ms fuel dst src r
+  as-none e h = subst (λ r. Leaving frames chain slots ms fuel dst src r) (sym e) h
+
+  pub no-frame : (machine_in ms).depth ≡ 0 → Leaving frames chain slots ms fuel dst src None
   no-frame e = refused 0 (lt-leb 1 (machine_in ms).depth (omega arith))
 
-  pub no_fuel : fuel ≡ 0 → Leaving frames chain slots ms fuel dst src Sleeper.Not
+  pub no_fuel : fuel ≡ 0 → Leaving frames chain slots ms fuel dst src None
   no_fuel e = refused 1 (lt-leb 1 fuel (omega arith))
 
-  pub none_runs : (machine_in ms).active ≡ 0 → Leaving frames chain slots ms fuel dst src Sleeper.Not
+  pub none_runs : (machine_in ms).active ≡ 0 → Leaving frames chain slots ms fuel dst src None
   none_runs e = refused 2 (lt-leb 1 (machine_in ms).active (omega arith))
 
-  pub no-dst : (machine_in ms).height ≤ top_in frames ms + dst → Leaving frames chain slots ms fuel dst src Sleeper.Not
+  pub no-dst : (machine_in ms).height ≤ top_in frames ms + dst → Leaving frames chain slots ms fuel dst src None
   no-dst h = refused 3 (le-ltb (top_in frames ms + dst) (machine_in ms).height h)
 
-  pub no_src : (machine_in ms).height ≤ top_in frames ms + src → Leaving frames chain slots ms fuel dst src Sleeper.Not
+  pub no_src : (machine_in ms).height ≤ top_in frames ms + src → Leaving frames chain slots ms fuel dst src None
   no_src h = refused 4 (le-ltb (top_in frames ms + src) (machine_in ms).height h)
 
-  pub no-resume : by_resume (inner chain ms).driver ≡ false → Leaving frames chain slots ms fuel dst src Sleeper.Not
+  pub no-resume : by_resume (inner chain ms).driver ≡ false → Leaving frames chain slots ms fuel dst src None
   no-resume e = refused 5 e
 
-  pub no_place : {f : Fault} → L.Not f ≡ to_leave chain slots ms → Leaving frames chain slots ms fuel dst src Sleeper.Not
+  pub no_place : {f : Fault} → Err f ≡ to_leave chain slots ms → Leaving frames chain slots ms fuel dst src None
   no_place e = refused 6 (ap (leaves_in frames chain slots ms) (sym e))
 
-  module _ {i : ℕ} (found : L.At i ≡ to_leave chain slots ms) where
-    kept_in : (n : ℕ) → get_or (exit_tests frames chain (record_at slots i) ms) n true ≡ false → Leaving frames chain slots ms fuel dst src Sleeper.Not
+  module _ {i : ℕ} (found : Ok i ≡ to_leave chain slots ms) where
+    kept_in : (n : ℕ) → get_or (exit_tests frames chain (record_at slots i) ms) n true ≡ false → Leaving frames chain slots ms fuel dst src None
     kept_in n e = refused 6 (ap (leaves_in frames chain slots ms) (sym found) ∙ fails (exit_tests frames chain (record_at slots i) ms) n e)
 
-    pub closing : (record_at slots i).closing ≡ true → Leaving frames chain slots ms fuel dst src Sleeper.Not
+    pub closing : (record_at slots i).closing ≡ true → Leaving frames chain slots ms fuel dst src None
     closing e = kept_in 0 (ap not e)
 
-    pub too_wide : (record_at slots i).maxregs < (machine_in ms).height - base frames chain ms → Leaving frames chain slots ms fuel dst src Sleeper.Not
+    pub too_wide : (record_at slots i).maxregs < (machine_in ms).height - base frames chain ms → Leaving frames chain slots ms fuel dst src None
     too_wide h = kept_in 1 (lt-leb ((machine_in ms).height - base frames chain ms) (record_at slots i).maxregs h)
 
-    pub too-deep : (record_at slots i).maxframes < (machine_in ms).depth - (inner chain ms).floor → Leaving frames chain slots ms fuel dst src Sleeper.Not
+    pub too-deep : (record_at slots i).maxframes < (machine_in ms).depth - (inner chain ms).floor → Leaving frames chain slots ms fuel dst src None
     too-deep h = kept_in 2 (lt-leb ((machine_in ms).depth - (inner chain ms).floor) (record_at slots i).maxframes h)
 
-    pub no_key : Exact.Over ≡ next_key (record_at slots i).largest → Leaving frames chain slots ms fuel dst src Sleeper.Not
+    pub no_key : None ≡ next_key (record_at slots i).largest → Leaving frames chain slots ms fuel dst src None
     no_key e = kept_in 3 (ap key_fits (sym e))
 
-    pub no_word : {n : ℕ} → Exact.Fits n ≡ next_key (record_at slots i).largest → Inline.Large ≡ inline_of (of_bits 63 n) → Leaving frames chain slots ms fuel dst src Sleeper.Not
+    pub no_word : {n : ℕ} → Some n ≡ next_key (record_at slots i).largest → None ≡ inline_of (of_bits 63 n) → Leaving frames chain slots ms fuel dst src None
     no_word e f = kept_in 3 (ap key_fits (sym e) ∙ ap has_word (sym f))
 
     -- ---- all are passed
@@ -103,15 +105,11 @@ module _ {frames chain slots ms : List ℕ} {fuel dst src : ℕ} where
         (both (lt-ltb (low + dst) (machine_in ms).height h.dst-in) (both (lt-ltb (low + src) (machine_in ms).height h.src-in)
         (both (ap by_resume h.driven) (both (ap (leaves_in frames chain slots ms) (sym found) ∙ exit) refl))))))
 
-    pub at_slot : {to key largest : ℕ} → Leavable frames chain slots ms fuel dst src i to key largest → Leaving frames chain slots ms fuel dst src (Sleeper.At i to key largest)
+    pub at_slot : {to key largest : ℕ} → Leavable frames chain slots ms fuel dst src i to key largest → Leaving frames chain slots ms fuel dst src (Some (record { slot = i; to = to; key = key; largest = largest }))
     at_slot {to} {key} {largest} h =
         record {
-          at = λ j t k n e.
-              let p : i ≡ j = cc in
-              let o : to ≡ t = cc in
-              let q : key ≡ k = cc in
-              let r : largest ≡ n = cc in
-              subst (λ z. Leavable frames chain slots ms fuel dst src z t k n) p (subst (λ z. Leavable frames chain slots ms fuel dst src i z k n) o
-              (subst (λ z. Leavable frames chain slots ms fuel dst src i to z n) q (subst (λ z. Leavable frames chain slots ms fuel dst src i to key z) r h)));
+          at = λ s e.
+              let p : ◌≡◌ {A = Sleeper} (record { slot = i; to = to; key = key; largest = largest }) s = cc in
+              subst (λ (z : Sleeper). Leavable frames chain slots ms fuel dst src z.slot z.to z.key z.largest) p h;
           told = sym (all-passed h);
         }

@@ -14,9 +14,8 @@ use Rattle.heap.specs.Object.{as_yielded}
 use Rattle.heap.specs.Slot.{width, yielded_words}
 use Rattle.heap.specs.Heap.{SlotFits, slots_of, coro_of}
 use Rattle.heap.specs.declared.fault.Fault.{Fault}
-use Rattle.heap.specs.declared.heap.Coroutine.TheVariants as RV
-use Rattle.heap.specs.declared.int.Exact.{Exact}
-use Rattle.heap.specs.declared.int.Inline.{Inline}
+use Rattle.std.specs.Prelude.{Option, Result, Some, None, Ok}
+use Rattle.heap.specs.declared.value.Word.{Word}
 use Rattle.heap.specs.declared.object.CoroObj.{CoroObj}
 use Rattle.heap.specs.declared.object.CoroState.{CoroState}
 use Rattle.heap.proofs.Fields as H
@@ -27,10 +26,7 @@ use Rattle.model.specs.Coro.{coro_send, coro_suspend, deliver}
 use Rattle.model.specs.Exec.{key_at, key_exact, auto_key, suspend, yield}
 use Rattle.model.specs.Heap.{encode_at}
 use Rattle.model.specs.Sound.{sound}
-use Rattle.model.specs.declared.coro.AutoKey.{AutoKey}
 use Rattle.model.specs.declared.coro.Event.{Event}
-use Rattle.model.specs.declared.coro.Keys.{Keys}
-use Rattle.model.specs.declared.coro.Suspension.{Suspension}
 use Rattle.model.specs.declared.exec.Step.{Step}
 use Rattle.model.specs.declared.machine.Active.{Active}
 use Rattle.model.specs.declared.machine.Driver.{Driver}
@@ -69,13 +65,13 @@ module _ (l : Sizes) (M : Lent) (m : Machine) (f : Fuel) (w : World) (rep : Rep 
   abbrev c : CoroObj
   c = record_at M.slots i
 
-  abbrev keys : Keys
-  keys = Keys.Set key largest
+  abbrev keys : Option (ℕ × ℕ)
+  keys = Some (key, largest)
 
   abbrev base : ℕ
   base = base_in M.frames a.floor
 
-  pub found : RV.At i c ≡ coro_of (slots_of m.count M.slots) a.coro
+  pub found : Ok (i, c) ≡ coro_of (slots_of m.count M.slots) a.coro
   found = (stands m.count M.slots a.coro i may.found).coro
 
   pub slot : SlotFits M.slots i
@@ -136,7 +132,7 @@ pub standing : (l : Sizes) (M : Lent) (m : Machine) (f : Fuel) (w : World) → R
 standing l M m f w rep snd h =
     let a = innermost_in M.chain m in
     let s = w.setup in
-    let q = Suspended.chain-is l M m f CoroState.Yielded 0 0 Keys.Keep w rep a h refl in
+    let q = Suspended.chain-is l M m f CoroState.Yielded 0 0 None w rep a h refl in
     let known : Sound false w = sound→ w snd (λ z. no_false z) in
     let c : Cut false s (length w.stack) w.frames a (drop 1 w.chain) = cut s (subst (Stands false s (length w.stack) w.frames) q known.tower.stands) in
     let low : a.floor < length w.frames = floor-below s c in
@@ -164,34 +160,34 @@ same_base l w M M' m f pc floor r r' h =
 
 -- ---- the key
 
-pub key-made : (so_far key largest : ℕ) (w : World) → Exact.Fits largest ≡ next_key so_far → Inline.At (record { 0 = key }) ≡ inline_of (of_bits 63 largest)
-    → after w (AutoKey.Key key largest) ≡ auto_key so_far w
+pub key-made : (so_far key largest : ℕ) (w : World) → Some largest ≡ next_key so_far → Some (record { 0 = key }) ≡ inline_of (of_bits 63 largest)
+    → after w (Ok (key, largest)) ≡ auto_key so_far w
 unfolding auto_key
 key-made so_far key largest w e h =
-    ap (λ (x : Inline). and_then (encode_at x largest w) (key_at largest)) h ∙ ap (λ (x : Exact). key_exact x w) e
+    ap (λ (x : Option Word). and_then (encode_at x largest w) (key_at largest)) h ∙ ap (λ (x : Option ℕ). key_exact x w) e
 
 -- ---- the whole
 
 module _ (l : Sizes) (M M'' : Lent) (m n : Machine) (f : Fuel) (w : World) (rep : Rep l w M m f) (i : ℕ) (may : May M.frames M.chain M.slots m i) (pc dst src payload key largest to : ℕ) where
   abbrev u : World
-  u = (coro_suspend CoroState.Yielded dst payload (Keys.Set key largest) (store_pc pc w)).world
+  u = (coro_suspend CoroState.Yielded dst payload (Some (key, largest)) (store_pc pc w)).world
 
   pub yields : Keyed M.slots i key largest → payload ≡ reg w src
-      → told_to (Driver.Resume to) payload key ≡ (coro_suspend CoroState.Yielded dst payload (Keys.Set key largest) (store_pc pc w)).answer
+      → told_to (Driver.Resume to) payload key ≡ (coro_suspend CoroState.Yielded dst payload (Some (key, largest)) (store_pc pc w)).answer
       → Rep l (coro_send to payload u) M'' n f → Does l (yield pc dst src w) M'' n f Step.Frame
   unfolding deliver
   yields keyed sent told rep'' =
       let a = innermost_in M.chain m in
       let c = record_at M.slots i in
-      let keys = Keys.Set key largest in
-      let did : Does l (deliver (Driver.Resume to) (Event.Yielded payload key) u) M'' n f Fault.None = record { world = rep''; answer = refl } in
+      let keys = Some (key, largest) in
+      let did : Does l (deliver (Driver.Resume to) (Event.Yielded payload key) u) M'' n f (Ok tt) = record { world = rep''; answer = refl } in
       let e = told_to (Driver.Resume to) payload key in
       let made = key-made c.largest key largest w keyed.next keyed.inline in
       let done = suspended l M'' n f w pc CoroState.Yielded dst payload keys e Step.Frame told
-      (deliver-done l M'' n f u e (Driver.Resume to) (Event.Yielded payload key) Fault.None Step.Frame refl did (sym (pick_true _ _))) in
-      yield-runs l M'' n f w pc dst src (runs l w M m f rep may.running) payload a.coro c.largest (AutoKey.Key key largest) Step.Frame sent
+      (deliver-done l M'' n f u e (Driver.Resume to) (Event.Yielded payload key) (Ok tt) Step.Frame refl did refl) in
+      yield-runs l M'' n f w pc dst src (runs l w M m f rep may.running) payload a.coro c.largest (Ok (key, largest)) Step.Frame sent
       (ap (λ (x : Active). x.coro) (innermost l w M m f rep may.running))
       (largest-at l M m f w rep a.coro i c (stands m.count M.slots a.coro i may.found).coro)
-      (ap (λ (x : After AutoKey). x.answer) made)
-      (keyed-yield l M'' n f (auto_key c.largest w).world pc dst payload (AutoKey.Key key largest) Step.Frame key largest refl
-      (subst (λ (z : World). Does l (suspend pc CoroState.Yielded dst payload keys z) M'' n f Step.Frame) (ap (λ (x : After AutoKey). x.world) made) done))
+      (ap (λ (x : After (Result (ℕ × ℕ) Fault)). x.answer) made)
+      (keyed-yield l M'' n f (auto_key c.largest w).world pc dst payload (Ok (key, largest)) Step.Frame key largest refl
+      (subst (λ (z : World). Does l (suspend pc CoroState.Yielded dst payload keys z) M'' n f Step.Frame) (ap (λ (x : After (Result (ℕ × ℕ) Fault)). x.world) made) done))

@@ -19,7 +19,7 @@ use Rattle.model.specs.Calls.{Row, Instruction, OnFrame, OnHost, Unwinds, Grants
 use Rattle.model.specs.Exec.{resume}
 use Rattle.model.specs.Sound.{sound}
 use Rattle.model.specs.declared.call.Op.{Op}
-use Rattle.model.specs.declared.call.OptPc.{OptPc}
+use Rattle.std.specs.Prelude.{Some}
 use Rattle.model.specs.declared.call.Answer.{Answer}
 use Rattle.model.specs.declared.exec.Step.{Step}
 use Rattle.model.specs.declared.machine.Fuel.{Fuel}
@@ -100,13 +100,13 @@ module _ (l : Sizes) (M : Lent) (m : Machine) (f : Fuel) (w : World) (rep : Rep 
   base = get_or M.frames ((m.depth - 1) * 6 + 2) 0
 
   abbrev pub paid : World
-  paid = (charge (OptPc.Some pc) w).world
+  paid = (charge (Some pc) w).world
 
   pub paid-rep : Rep l paid M m (spent f)
-  paid-rep = (charge-fast l M m f w rep (OptPc.Some pc) (spent f) rich refl).world
+  paid-rep = (charge-fast l M m f w rep (Some pc) (spent f) rich refl).world
 
   pub paid-sound : sound paid ≡ true
-  paid-sound = charged-sound (OptPc.Some pc) w (narrow-pc pc narrow) snd
+  paid-sound = charged-sound (Some pc) w (narrow-pc pc narrow) snd
 
   pub resume-done : base + dst < m.height → base + c < m.height → base + src < m.height → (M' : Lent) (n : Machine) (v : ℕ) → v ≡ reg paid c
       → Does l (resumes_by pc dst src v paid) M' n (spent f) Step.Frame → Does l (did (Op.Resume pc dst c src) w) M' n (spent f) (Answer.Stepped Step.Frame 0)
@@ -117,7 +117,7 @@ module _ (l : Sizes) (M : Lent) (m : Machine) (f : Fuel) (w : World) (rep : Rep 
       as-instruction l M' n (spent f) w o (Answer.Stepped Step.Frame 0) refl
       (of_row o (λ pc operands arm. Does l (instruction pc (operands w) arm w) M' n (spent f) (Answer.Stepped Step.Frame 0)) pc (all_in (dst ∷ c ∷ src ∷ [])) (resume pc dst c src) refl
       (done l M' n (spent f) w pc (all_in (dst ∷ c ∷ src ∷ []) w) (resume pc dst c src) (some-frames w.frames M.frames m.depth rep.frames some) pass pc refl 0 Step.Frame
-      (Answer.Stepped Step.Frame 0) (charge-fast l M m f w rep (OptPc.Some pc) (spent f) rich refl).answer
+      (Answer.Stepped Step.Frame 0) (charge-fast l M m f w rep (Some pc) (spent f) rich refl).answer
       (resumed l M' n (spent f) paid pc dst c src v (reg paid src) Step.Frame is refl d) refl))
 
 -- what is left, by the words that tell it

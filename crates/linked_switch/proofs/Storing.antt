@@ -13,9 +13,9 @@ use Rattle.model.specs.Frames.{on_top, set_pc, store_pc, reg}
 use Rattle.model.specs.Coro.{coro_enter}
 use Rattle.model.specs.Exec.{yield, arrive}
 use Rattle.model.specs.Sound.{sound}
+use Rattle.std.specs.Prelude.{Result, Some}
 use Rattle.model.specs.declared.coro.Entered.{Entered}
 use Rattle.model.specs.declared.coro.Event.{Event}
-use Rattle.model.specs.declared.coro.Keys.{Keys}
 use Rattle.model.specs.declared.exec.Step.{Step}
 use Rattle.model.specs.declared.machine.Driver.{Driver}
 use Rattle.memory_tables.specs.Layout.{base_in}
@@ -76,7 +76,7 @@ module _ {stack frames chain slots saved_stack saved_frames ms : List ℕ} {pc s
     pub enter-fresh : is_created k.state ≡ true → Gives if_sound (sizes_in ms) (resumes_by pc dst src v) was (only (machine_in ms)) M (only (grown (machine_in ms) k)) Step.Frame
     enter-fresh new w b rep snd =
         let d = entered w b rep snd in let e = enters_by v dst (store_pc pc w) in
-        let fresh : entered_as k ≡ Entered.Fresh = ap (λ t. pick t Entered.Fresh (Entered.Suspended k.waiting)) new ∙ pick_true _ _ in
+        let fresh : entered_as k ≡ (Result.Ok Entered.Fresh) = ap (λ t. pick t (Result.Ok Entered.Fresh) (Result.Ok (Entered.Suspended k.waiting))) new ∙ pick_true _ _ in
         then-does (sizes_in ms) (M b) (grown (machine_in ms) k) b.fuel e (arrive (reg w src)) (entered_as k) Step.Frame d.answer
         (arrive-fresh (sizes_in ms) (M b) (grown (machine_in ms) k) b.fuel e.world (entered_as k) (reg w src) fresh d.world)
 
@@ -146,7 +146,7 @@ module _ {stack frames chain slots saved_stack saved_frames ms : List ℕ} {pc s
     pub leave-sends : let b = h.run.ok.beside in SendFits (M b).stack (M b).frames base floor to
     leave-sends =
         let o = h.run.ok in
-        ((drives (sizes_in ms) (M o.beside) (shrunk_to ms base floor) o.beside.fuel CoroState.Yielded dst payload (Keys.Set key largest) (store_pc pc o.world)
+        ((drives (sizes_in ms) (M o.beside) (shrunk_to ms base floor) o.beside.fuel CoroState.Yielded dst payload (Some (key, largest)) (store_pc pc o.world)
         (store-sounds pc o.world h.run.narrow o.sound) _ (suspended o.world o.beside o.rep o.sound)).drives (Driver.Resume to) (Event.Yielded payload key) told).resumes to refl
 
     pub leave-done : Gets stack frames (machine_in ms).height (machine_in ms).depth src payload → floor ≡ a → base ≡ base_in frames' a

@@ -11,14 +11,14 @@ use Rattle.heap.specs.Object.{as_yielded}
 use Rattle.heap.specs.Word.{nil}
 use Rattle.heap.specs.Charge.{fits, sat_add, with_used, charge_of}
 use Rattle.heap.specs.declared.heap.Heap.{Heap}
-use Rattle.heap.specs.declared.heap.Charged.TheVariants as C
+use Rattle.std.specs.Prelude.{Some, Ok, Err}
+use Rattle.heap.specs.declared.fault.Fault.{Fault}
 use Rattle.heap.specs.declared.object.CoroObj.{CoroObj}
 use Rattle.heap.specs.declared.object.CoroState.{CoroState}
 use Rattle.model.specs.Lists.{each}
 use Rattle.model.specs.Program.{Setup, between, limits_ok, costs_ok, function_ok, hook_ok, setup_ok}
 use Rattle.model.specs.World.{World}
 use Rattle.model.specs.Sound.{sound}
-use Rattle.model.specs.declared.coro.Keys.{Keys}
 use Rattle.model.specs.declared.machine.Fuel.{Fuel}
 use Rattle.claims_sound.proofs.Tests.{no_false, and_left, and_right}
 use Rattle.claims_sound.proofs.Sound.{Sound, sound→}
@@ -31,7 +31,7 @@ use Rattle.coro_suspend.proofs.Parts.{heap_of}
 -- ---- the record: its largest sizes and its closing mark stay
 
 pub suspends : (c : CoroObj) (regs frames dst payload key largest : ℕ) → c.closing ≡ false → regs ≤ c.maxregs → frames ≤ c.maxframes
-    → as_yielded regs frames dst payload key largest c ≡ suspended CoroState.Yielded regs frames dst payload (Keys.Set key largest) c
+    → as_yielded regs frames dst payload key largest c ≡ suspended CoroState.Yielded regs frames dst payload (Some (key, largest)) c
 suspends c regs frames dst payload key largest mark wide deep =
     let b = c.closing in
     let p : b ≡ pick (ignores CoroState.Yielded b) false b = mark ∙ sym (ap (λ x. pick (ignores CoroState.Yielded x) false x) mark ∙ pick-false false false) in
@@ -100,11 +100,11 @@ module _ (l : Sizes) (M : Lent) (m : Machine) (f : Fuel) (w : World) (rep : Rep 
   abbrev pub charged : Heap
   charged = with_used (sat_add m.used grow) (heap_of m l)
 
-  pub paid : C.Done charged ≡ charge_of (heap_of m l) grow
+  pub paid : Ok charged ≡ charge_of (heap_of m l) grow
   paid =
       let a = within.0 in
       let e : fits m.used l.memory grow ≡ true = ap (λ n. leb n l.memory) used-stays ∙ le-leb m.used l.memory a in
-      sym (ap (λ b. pick b (C.Done charged) C.OutOfMemory) e ∙ pick_true _ _)
+      sym (ap (λ b. pick b (Ok charged) (Err Fault.OutOfMemory)) e ∙ pick_true _ _)
 
   pub shrinks : (base floor : ℕ) → shrunk m base floor m.used ≡ shrunk m base floor charged.used
   shrinks base floor = ap (shrunk m base floor) (sym used-stays)

@@ -10,7 +10,7 @@ use Rattle.model.specs.Gate.{all_in, instruction}
 use Rattle.model.specs.Exec.{yield}
 use Rattle.model.specs.Sound.{sound}
 use Rattle.model.specs.declared.call.Op.{Op}
-use Rattle.model.specs.declared.call.OptPc.{OptPc}
+use Rattle.std.specs.Prelude.{Some}
 use Rattle.model.specs.declared.exec.Step.{Step}
 use Rattle.model.specs.declared.machine.Fuel.{Fuel}
 use Rattle.memory_world.specs.Memory.{Lent, Rep}
@@ -54,4 +54,4 @@ module _ (l : Sizes) (M : Lent) (m : Machine) (f : Fuel) (w : World) (rep : Rep 
       as-instruction l M' n (spent f) w o goes_on refl
       (of_row o (λ pc operands arm. Does l (instruction pc (operands w) arm w) M' n (spent f) goes_on) pc (all_in (dst ∷ src ∷ [])) (yield pc dst src) refl
       (done l M' n (spent f) w pc (all_in (dst ∷ src ∷ []) w) (yield pc dst src) (some-frames w.frames M.frames m.depth rep.frames some) pass pc refl 0 Step.Frame
-      goes_on (charge-fast l M m f w rep (OptPc.Some pc) (spent f) rich refl).answer d refl))
+      goes_on (charge-fast l M m f w rep (Some pc) (spent f) rich refl).answer d refl))

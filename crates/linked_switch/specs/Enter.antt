@@ -1,14 +1,13 @@
 -- coro.rs: coro_enter, of a coroutine in slot i that nothing refuses.
-use Rattle.std.specs.Prelude.{◌≡◌, List, ℕ, ◌+◌, ◌*◌, ◌≤◌, length}
+use Rattle.std.specs.Prelude.{◌≡◌, List, ℕ, ◌+◌, ◌*◌, ◌≤◌, length, Result}
 use Rattle.heap.specs.Heap.{SlotFits, slots_of, coro_of, place_of}
 use Rattle.heap.specs.declared.fault.Fault.{Fault}
-use Rattle.heap.specs.declared.heap.CoroPlace.TheVariants as L
+use Rattle.model.specs.declared.coro.Entered.{Entered}
 use Rattle.model.specs.World.{World, After, and_then}
 use Rattle.model.specs.Frames.{reg, store_pc, on_top, step_pc}
 use Rattle.model.specs.Exec.{arrive}
 use Rattle.model.specs.declared.exec.Step.{Step}
 use Rattle.model.specs.Coro.{coro_enter}
-use Rattle.model.specs.declared.coro.Entered.{Entered}
 use Rattle.model.specs.declared.machine.Driver.{Driver}
 use Rattle.memory_tables.specs.Does.{FramesDo, RegFits, Puts}
 use Rattle.memory_world.specs.Lendings.{lent}
@@ -20,7 +19,7 @@ use Rattle.coro_enter.specs.Entry.{EntryFits}
 use Rattle.linked_calls.specs.Words.{machine_in, sizes_in}
 use Rattle.linked_switch.specs.Words.{record_at}
 
-abbrev pub enters_by : ℕ → ℕ → World → After Entered
+abbrev pub enters_by : ℕ → ℕ → World → After (Result Entered Fault)
 enters_by v dst w = coro_enter v (Driver.Resume dst) w
 
 pub record MoveInFits (stack frames slots saved_stack saved_frames ms : List ℕ) (i : ℕ) : Type 0 where
@@ -30,8 +29,8 @@ pub record MoveInFits (stack frames slots saved_stack saved_frames ms : List ℕ
 
 -- it stands there under the word v
 pub record May (slots : List ℕ) (m : Machine) (sizes : Sizes) (v i : ℕ) : Type 0 where
-  pub found : L.At i ≡ place_of (coro_of (slots_of m.count slots) v)
-  pub fits : Fault.None ≡ refusal_of m.height m.depth sizes (record_at slots i)
+  pub found : Result.Ok i ≡ place_of (coro_of (slots_of m.count slots) v)
+  pub fits : Result.Ok tt ≡ refusal_of m.height m.depth sizes (record_at slots i)
 
 pub record EnterAtFits (stack frames chain slots saved_stack saved_frames ms : List ℕ) (v i : ℕ) : Type 0 where
   pub words : 25 ≤ length ms

@@ -1,9 +1,8 @@
 -- 01's gate, fuel in hand, and what coro_enter tests: a Resume that nothing refuses.
-use Rattle.std.specs.Prelude.{◌≡◌, Bool, true, false, not, List, [], ◌∷◌, ℕ, ◌+◌, ◌-◌, ◌*◌, ◌≤◌, ◌<◌, length, get_or, eqb, leb, ltb}
+use Rattle.std.specs.Prelude.{◌≡◌, Bool, true, false, not, List, [], ◌∷◌, ℕ, ◌+◌, ◌-◌, ◌*◌, ◌≤◌, ◌<◌, length, get_or, eqb, leb, ltb, Option, Result, Some, None, Ok, Err}
 use Rattle.heap.specs.Slot.{width}
 use Rattle.heap.specs.Heap.{slots_of, coro_of, place_of}
-use Rattle.heap.specs.declared.heap.CoroPlace.{CoroPlace}
-use Rattle.heap.specs.declared.heap.CoroPlace.TheVariants as L
+use Rattle.heap.specs.declared.fault.Fault.{Fault}
 use Rattle.heap.specs.declared.object.CoroObj.{CoroObj}
 use Rattle.model.specs.State.{is_resumable}
 use Rattle.memory_tables.specs.Layout.{base_in}
@@ -11,7 +10,6 @@ use Rattle.memory_tables.specs.Does.{Gets}
 use Rattle.linked_calls.specs.Words.{machine_in, sizes_in}
 use Rattle.linked_switch.specs.Words.{record_at, all}
 use Rattle.linked_switch.specs.Enter.{May}
-use Rattle.linked_switch.specs.declared.enters.Enters.{Enters}
 
 -- words enough for the numbers, which are within the limits
 pub record EntersFits (stack frames slots ms : List ℕ) : Type 0 where
@@ -43,13 +41,13 @@ entry_tests c ms =
     ∷ leb (m.depth + c.frames) sizes.depth ∷ leb (m.height + c.regs) sizes.stack ∷ []
 
 -- what the word in register c names
-abbrev pub to_enter : List ℕ → List ℕ → List ℕ → List ℕ → ℕ → CoroPlace
+abbrev pub to_enter : List ℕ → List ℕ → List ℕ → List ℕ → ℕ → Result ℕ Fault
 to_enter stack frames slots ms c = place_of (coro_of (slots_of (machine_in ms).count slots) (get_or stack (top_in frames ms + c) 0))
 
 -- where it names a coroutine
-abbrev pub enters_in : List ℕ → List ℕ → CoroPlace → Bool
-enters_in slots ms (L.Not f) = false
-enters_in slots ms (L.At i) = all (entry_tests (record_at slots i) ms)
+abbrev pub enters_in : List ℕ → List ℕ → Result ℕ Fault → Bool
+enters_in slots ms (Err f) = false
+enters_in slots ms (Ok i) = all (entry_tests (record_at slots i) ms)
 
 abbrev pub enter_tests : List ℕ → List ℕ → List ℕ → List ℕ → ℕ → ℕ → ℕ → ℕ → List Bool
 enter_tests stack frames slots ms fuel dst c src =
@@ -74,11 +72,11 @@ pub record Enterable (stack frames slots ms : List ℕ) (fuel dst c src i v : �
   pub is : Gets stack frames (machine_in ms).height (machine_in ms).depth c v
   pub may : May slots (machine_in ms) (sizes_in ms) v i
 
-abbrev pub enters : Enters → Bool
-enters (Enters.At i v) = true
-enters Enters.Not = false
+abbrev pub enters : Option (ℕ × ℕ) → Bool
+enters (Some p) = true
+enters None = false
 
-pub record Entering (stack frames slots ms : List ℕ) (fuel dst c src : ℕ) (r : Enters) : Type 0 where
-  pub at : (i v : ℕ) → r ≡ Enters.At i v → Enterable stack frames slots ms fuel dst c src i v
+pub record Entering (stack frames slots ms : List ℕ) (fuel dst c src : ℕ) (r : Option (ℕ × ℕ)) : Type 0 where
+  pub at : (i v : ℕ) → r ≡ Some (i, v) → Enterable stack frames slots ms fuel dst c src i v
   -- it says so exactly if the tests are passed
   pub told : enters r ≡ may_enter stack frames slots ms fuel dst c src

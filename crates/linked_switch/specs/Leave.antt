@@ -1,17 +1,13 @@
 -- coro.rs: coro_suspend of a Yield, of the innermost coroutine, in slot i, that nothing refuses.
-use Rattle.std.specs.Prelude.{◌≡◌, false, List, ℕ, ◌+◌, ◌-◌, ◌*◌, ◌≤◌, ◌<◌, length}
+use Rattle.std.specs.Prelude.{◌≡◌, false, List, ℕ, ◌+◌, ◌-◌, ◌*◌, ◌≤◌, ◌<◌, length, Result, Some}
 use Rattle.heap.specs.Coding.{of_bits}
 use Rattle.heap.specs.Int.{inline_of, next_key}
 use Rattle.heap.specs.Heap.{slots_of, coro_of, place_of}
-use Rattle.heap.specs.declared.heap.CoroPlace.TheVariants as L
-use Rattle.heap.specs.declared.int.Exact.{Exact}
-use Rattle.heap.specs.declared.int.Inline.{Inline}
+use Rattle.heap.specs.declared.fault.Fault.{Fault}
 use Rattle.heap.specs.declared.object.CoroState.{CoroState}
 use Rattle.model.specs.World.{World, After}
 use Rattle.model.specs.Coro.{coro_suspend}
 use Rattle.model.specs.declared.coro.Event.{Event}
-use Rattle.model.specs.declared.coro.Keys.{Keys}
-use Rattle.model.specs.declared.coro.Suspension.{Suspension}
 use Rattle.model.specs.declared.machine.Active.{Active}
 use Rattle.model.specs.declared.machine.Driver.{Driver}
 use Rattle.memory_tables.specs.Layout.{active_in, base_in}
@@ -36,7 +32,7 @@ pub record MoveOutFits (stack frames saved_stack saved_frames ms : List ℕ) (ro
 pub record May (frames chain slots : List ℕ) (m : Machine) (i : ℕ) : Type 0 where
   pub running : 1 ≤ m.active
   pub floor : (innermost_in chain m).floor < m.depth
-  pub found : L.At i ≡ place_of (coro_of (slots_of m.count slots) (innermost_in chain m).coro)
+  pub found : Result.Ok i ≡ place_of (coro_of (slots_of m.count slots) (innermost_in chain m).coro)
   pub unclosed : (record_at slots i).closing ≡ false
   pub wide : m.height - base_in frames (innermost_in chain m).floor ≤ (record_at slots i).maxregs
   pub deep : m.depth - (innermost_in chain m).floor ≤ (record_at slots i).maxframes
@@ -48,12 +44,12 @@ pub record LeaveAtFits (stack frames chain slots saved_stack saved_frames ms : L
   pub at-floor : floor ≡ (innermost_in chain (machine_in ms)).floor
   pub at_base : base ≡ base_in frames (innermost_in chain (machine_in ms)).floor
 
-abbrev pub suspends_by : ℕ → ℕ → ℕ → ℕ → World → After Suspension
-suspends_by dst payload key largest w = coro_suspend CoroState.Yielded dst payload (Keys.Set key largest) w
+abbrev pub suspends_by : ℕ → ℕ → ℕ → ℕ → World → After (Result (Driver × Event) Fault)
+suspends_by dst payload key largest w = coro_suspend CoroState.Yielded dst payload (Some (key, largest)) w
 
 -- what its driver is told
-abbrev pub told_to : Driver → ℕ → ℕ → Suspension
-told_to d payload key = Suspension.Done d (Event.Yielded payload key)
+abbrev pub told_to : Driver → ℕ → ℕ → Result (Driver × Event) Fault
+told_to d payload key = Result.Ok (d, Event.Yielded payload key)
 
 -- the numbers after
 abbrev pub shrunk_to : List ℕ → ℕ → ℕ → Machine
@@ -61,8 +57,8 @@ shrunk_to ms base floor = shrunk (machine_in ms) base floor (machine_in ms).used
 
 -- the key after the largest so far: an integer that has a word of its own
 pub record Keyed (slots : List ℕ) (i key largest : ℕ) : Type 0 where
-  pub next : Exact.Fits largest ≡ next_key (record_at slots i).largest
-  pub inline : Inline.At (record { 0 = key }) ≡ inline_of (of_bits 63 largest)
+  pub next : Some largest ≡ next_key (record_at slots i).largest
+  pub inline : Some (record { 0 = key }) ≡ inline_of (of_bits 63 largest)
 
 -- .. driven by a Resume, whose register is `to`
 pub record LeaveFits (stack frames chain slots saved_stack saved_frames ms : List ℕ) (pc src i to key largest : ℕ) : Type 0 where

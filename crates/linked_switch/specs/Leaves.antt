@@ -1,13 +1,11 @@
 -- 01's gate, fuel in hand, and what coro_suspend and its delivery test: a Yield that nothing refuses, to a Resume.
-use Rattle.std.specs.Prelude.{◌≡◌, Bool, true, false, not, List, [], ◌∷◌, ℕ, ◌+◌, ◌-◌, ◌*◌, ◌≤◌, ◌<◌, length, leb}
+use Rattle.std.specs.Prelude.{◌≡◌, Bool, true, false, not, List, [], ◌∷◌, ℕ, ◌+◌, ◌-◌, ◌*◌, ◌≤◌, ◌<◌, length, leb, Option, Result, Some, None, Ok, Err}
 use Rattle.heap.specs.Coding.{of_bits}
 use Rattle.heap.specs.Slot.{width}
 use Rattle.heap.specs.Int.{inline_of, next_key}
 use Rattle.heap.specs.Heap.{slots_of, coro_of, place_of}
-use Rattle.heap.specs.declared.heap.CoroPlace.{CoroPlace}
-use Rattle.heap.specs.declared.heap.CoroPlace.TheVariants as L
-use Rattle.heap.specs.declared.int.Exact.{Exact}
-use Rattle.heap.specs.declared.int.Inline.{Inline}
+use Rattle.heap.specs.declared.fault.Fault.{Fault}
+use Rattle.heap.specs.declared.value.Word.{Word}
 use Rattle.heap.specs.declared.object.CoroObj.{CoroObj}
 use Rattle.model.specs.declared.machine.Driver.{Driver}
 use Rattle.memory_tables.specs.Layout.{base_in}
@@ -29,13 +27,13 @@ pub record LeavesFits (frames chain slots ms : List ℕ) : Type 0 where
 -- ---- the tests, on the words
 
 -- the key after the largest so far is an integer, and has a word of its own
-abbrev pub has_word : Inline → Bool
-has_word (Inline.At w) = true
-has_word Inline.Large = false
+abbrev pub has_word : Option Word → Bool
+has_word (Some w) = true
+has_word None = false
 
-abbrev pub key_fits : Exact → Bool
-key_fits (Exact.Fits n) = has_word (inline_of (of_bits 63 n))
-key_fits Exact.Over = false
+abbrev pub key_fits : Option ℕ → Bool
+key_fits (Some n) = has_word (inline_of (of_bits 63 n))
+key_fits None = false
 
 -- its driver
 abbrev pub by_resume : Driver → Bool
@@ -56,13 +54,13 @@ exit_tests frames chain c ms =
     ∷ key_fits (next_key c.largest) ∷ []
 
 -- what the innermost coroutine's word names
-abbrev pub to_leave : List ℕ → List ℕ → List ℕ → CoroPlace
+abbrev pub to_leave : List ℕ → List ℕ → List ℕ → Result ℕ Fault
 to_leave chain slots ms = place_of (coro_of (slots_of (machine_in ms).count slots) (innermost_in chain (machine_in ms)).coro)
 
 -- where it names a coroutine
-abbrev pub leaves_in : List ℕ → List ℕ → List ℕ → List ℕ → CoroPlace → Bool
-leaves_in frames chain slots ms (L.Not f) = false
-leaves_in frames chain slots ms (L.At i) = all (exit_tests frames chain (record_at slots i) ms)
+abbrev pub leaves_in : List ℕ → List ℕ → List ℕ → List ℕ → Result ℕ Fault → Bool
+leaves_in frames chain slots ms (Err f) = false
+leaves_in frames chain slots ms (Ok i) = all (exit_tests frames chain (record_at slots i) ms)
 
 abbrev pub leave_tests : List ℕ → List ℕ → List ℕ → List ℕ → ℕ → ℕ → ℕ → List Bool
 leave_tests frames chain slots ms fuel dst src =
@@ -89,11 +87,11 @@ pub record Leavable (frames chain slots ms : List ℕ) (fuel dst src i to key la
   pub keyed : Keyed slots i key largest
   pub driven : (innermost_in chain (machine_in ms)).driver ≡ Driver.Resume to
 
-abbrev pub leaves : Sleeper → Bool
-leaves (Sleeper.At i to key largest) = true
-leaves Sleeper.Not = false
+abbrev pub leaves : Option Sleeper → Bool
+leaves (Some s) = true
+leaves None = false
 
-pub record Leaving (frames chain slots ms : List ℕ) (fuel dst src : ℕ) (r : Sleeper) : Type 0 where
-  pub at : (i to key largest : ℕ) → r ≡ Sleeper.At i to key largest → Leavable frames chain slots ms fuel dst src i to key largest
+pub record Leaving (frames chain slots ms : List ℕ) (fuel dst src : ℕ) (r : Option Sleeper) : Type 0 where
+  pub at : (s : Sleeper) → r ≡ Some s → Leavable frames chain slots ms fuel dst src s.slot s.to s.key s.largest
   -- it says so exactly if the tests are passed
   pub told : leaves r ≡ may_leave frames chain slots ms fuel dst src

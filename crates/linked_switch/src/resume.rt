@@ -9,7 +9,7 @@ ghost use Rattle.memory_world.specs.Lendings.{six, plain};
 ghost use Rattle.memory_world.specs.Contract.{at_entry, at_exit, of_mut};
 
 use crate::enter::enter;
-use crate::enters::{Enters, may_enter};
+use crate::enters::may_enter;
 use linked_calls::numbers::FUEL;
 
 // One unit of fuel, then the entry.
@@ -79,7 +79,7 @@ pub fn bvm_try_resume_unchecked(
         coro as u64,
         src as u64,
     ) {
-        Enters::At(i, v) => {
+        Some((i, v)) => {
             resume_at(
                 stack,
                 frames,
@@ -98,6 +98,6 @@ pub fn bvm_try_resume_unchecked(
             );
             1
         }
-        Enters::Not => 0,
+        None => 0,
     }
 }

@@ -9,7 +9,7 @@ ghost use Rattle.memory_world.specs.Lendings.{six, plain};
 ghost use Rattle.memory_world.specs.Contract.{at_entry, at_exit, of_mut};
 
 use crate::leave::leave;
-use crate::leaves::{Sleeper, may_leave};
+use crate::leaves::may_leave;
 use linked_calls::numbers::FUEL;
 
 // One unit of fuel, then the suspension.
@@ -74,7 +74,7 @@ pub fn bvm_try_yield_unchecked(
     match may_leave(
         frames, chain, slots, machine, fuel[FUEL], dst as u64, src as u64,
     ) {
-        Sleeper::At(i, to, key, largest) => {
+        Some(s) => {
             yield_at(
                 stack,
                 frames,
@@ -87,13 +87,13 @@ pub fn bvm_try_yield_unchecked(
                 pc as u64,
                 dst as u64,
                 src as u64,
-                i,
-                to,
-                key,
-                largest,
+                s.slot,
+                s.to,
+                s.key,
+                s.largest,
             );
             1
         }
-        Sleeper::Not => 0,
+        None => 0,
     }
 }

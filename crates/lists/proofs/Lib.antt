@@ -1,4 +1,5 @@
 pub mod Joined
+pub mod Results
 pub mod Runs
 pub mod Tables
 pub mod Tests

@@ -9,25 +9,18 @@ pub fn copy_words(dst: &mut [u64], src: &[u64])
     requires { length dst.old ≡ length src.now }
     ensures { dst.new ≡ src.now }
 {
-    let mut i = 0;
-    while i < dst.len() {
-        dst[i] = src[i];
-        i += 1;
-    }
+    dst.copy_from_slice(src);
 }
 
 // All words 0.
 pub fn clear_words(s: &mut [u64])
     ensures { s.new ≡ replicate (length s.old) 0 }
 {
-    let mut i = 0;
-    while i < s.len() {
-        s[i] = 0;
-        i += 1;
-    }
+    s.fill(0);
 }
 
-// All words of `src`, into a slice as long; they become 0 in `src`. Two in a turn, which are compiled to one load and two stores.
+// All words of `src`, into a slice as long; they become 0 in `src`. A counted loop of two in a turn, which are compiled to one load and
+// two stores: faster than `copy_from_slice` and `fill`.
 pub fn take_words(dst: &mut [u64], src: &mut [u64])
     requires { length dst.old ≡ length src.old }
     ensures { (dst.new ≡ src.old) × (src.new ≡ replicate (length src.old) 0) }
@@ -54,10 +47,8 @@ pub fn all_zero(s: &[u64]) -> bool
     ensures { result ≡ zeros s.now }
 {
     let mut any: u64 = 0;
-    let mut i = 0;
-    while i < s.len() {
-        any = any | s[i];
-        i += 1;
+    for w in s {
+        any |= *w;
     }
     any == 0
 }
@@ -66,8 +57,5 @@ pub fn all_zero(s: &[u64]) -> bool
 pub fn both(a: bool, b: bool) -> bool
     ensures { result ≡ (a && b) }
 {
-    if a {
-        return b;
-    }
-    false
+    a && b
 }

@@ -7,7 +7,8 @@ use Rattle.model.specs.World.{World, with_fuel}
 use Rattle.model.specs.Added.{reserve, refuel, grant, take_outcome}
 use Rattle.model.specs.declared.call.Answer.{Answer}
 use Rattle.model.specs.declared.machine.Fuel.{Fuel}
-use Rattle.model.specs.declared.machine.Outcome.{Outcome}
+use Rattle.std.specs.Prelude.{Option, None}
+use Rattle.model.specs.declared.machine.Stop.{Stop}
 use Rattle.memory_world.specs.Told.{told, outcome_in}
 use Rattle.memory_world.specs.Memory.{Lent, Rep}
 use Rattle.memory_world.specs.Contract.{Does}
@@ -39,8 +40,8 @@ module _ (l : Sizes) (M : Lent) (m : Machine) (f : Fuel) (w : World) (rep : Rep 
 
 -- ---- the outcome
 
-pub taken : (l : Sizes) (M : Lent) (m n : Machine) (f : Fuel) (w : World) (o : Outcome) → Rep l w M m f → n ≡ untold m → o ≡ outcome_in m.outcome → Does l (take_outcome w) M n f (Answer.Took o)
+pub taken : (l : Sizes) (M : Lent) (m n : Machine) (f : Fuel) (w : World) (o : Option Stop) → Rep l w M m f → n ≡ untold m → o ≡ outcome_in m.outcome → Does l (take_outcome w) M n f (Answer.Took o)
 unfolding take_outcome
 taken l M m n f w o rep e q =
     subst (λ k. Does l (take_outcome w) M k f (Answer.Took o)) (sym e)
-    (record { world = turn-outcome l w M m f rep Outcome.None; answer = ap Answer.Took (q ∙ ap outcome_in rep.outcome ∙ told_back w.outcome) })
+    (record { world = turn-outcome l w M m f rep None; answer = ap Answer.Took (q ∙ ap outcome_in rep.outcome ∙ told_back w.outcome) })

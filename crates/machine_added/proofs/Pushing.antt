@@ -7,7 +7,8 @@ use Rattle.model.specs.Frames.{put_reg, store_pc}
 use Rattle.model.specs.Machine.{push_frame}
 use Rattle.model.specs.Added.{host_call, function_call, put_word}
 use Rattle.model.specs.Added as Added
-use Rattle.model.specs.declared.coro.WordOr.{WordOr}
+use Rattle.std.specs.Prelude.{Result, Ok, Err}
+use Rattle.heap.specs.declared.fault.Fault.{Fault}
 use Rattle.model.specs.declared.call.Answer.{Answer}
 use Rattle.model.specs.declared.machine.Cont.{Cont}
 use Rattle.model.specs.declared.machine.Fuel.{Fuel}
@@ -19,28 +20,28 @@ use Rattle.memory_world.specs.declared.machine.Sizes.{Sizes}
 use Rattle.machine_state.specs.Frame.{pushed_or, push_at}
 
 -- what was pushed, as an answer
-abbrev pushed_as : WordOr → Answer
-pushed_as (WordOr.Word base) = Answer.Accepted
-pushed_as (WordOr.Refused f) = Answer.Refused f
+abbrev pushed_as : Result ℕ Fault → Answer
+pushed_as (Ok base) = Answer.Accepted
+pushed_as (Err f) = Answer.Refused f
 
-in-any : (w : World) (a : WordOr) → (Added.pushed_or w w a).answer ≡ pushed_as a
-in-any w (WordOr.Word b) = refl
-in-any w (WordOr.Refused f) = refl
+in-any : (w : World) (a : Result ℕ Fault) → (Added.pushed_or w w a).answer ≡ pushed_as a
+in-any w (Ok b) = refl
+in-any w (Err f) = refl
 
-abbrev told : After WordOr → After Answer
+abbrev told : After (Result ℕ Fault) → After Answer
 told o = after o.world (pushed_as o.answer)
 
-back : (w u : World) (a : WordOr) → told (pushed_or w u a) ≡ Added.pushed_or w u a
-back w u (WordOr.Word b) = refl
-back w u (WordOr.Refused f) = refl
+back : (w u : World) (a : Result ℕ Fault) → told (pushed_or w u a) ≡ Added.pushed_or w u a
+back w u (Ok b) = refl
+back w u (Err f) = refl
 
 -- a refused frame leaves the world
 pushes-back : (f closure : ℕ) (cont : Cont) (w : World) → push_frame f closure cont w ≡ and_then (push_frame f closure cont w) (pushed_or w)
 unfolding push_frame
-pushes-back f closure cont w = picked (λ (o : After WordOr). o ≡ and_then o (pushed_or w)) _ (λ _. refl) (λ _. refl)
+pushes-back f closure cont w = picked (λ (o : After (Result ℕ Fault)). o ≡ and_then o (pushed_or w)) _ (λ _. refl) (λ _. refl)
 
-module _ (l : Sizes) (M : Lent) (m : Machine) (fuel : Fuel) (w : World) (a : WordOr) (x : Answer) where
-  answered : (o : After WordOr) (p : After Answer) → told o ≡ p → ((v u : World) → x ≡ (Added.pushed_or v u a).answer) → Does l o M m fuel a → Does l p M m fuel x
+module _ (l : Sizes) (M : Lent) (m : Machine) (fuel : Fuel) (w : World) (a : Result ℕ Fault) (x : Answer) where
+  answered : (o : After (Result ℕ Fault)) (p : After Answer) → told o ≡ p → ((v u : World) → x ≡ (Added.pushed_or v u a).answer) → Does l o M m fuel a → Does l p M m fuel x
   answered o p e q d = subst (λ (z : After Answer). Does l z M m fuel x) e (record { world = d.world; answer = q w w ∙ in-any w a ∙ ap pushed_as d.answer })
 
   pub host_called : (f : ℕ) → ((v u : World) → x ≡ (Added.pushed_or v u a).answer) → Does l (push_frame f nil Cont.Entry w) M m fuel a → Does l (host_call f w) M m fuel x

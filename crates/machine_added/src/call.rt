@@ -7,27 +7,21 @@ ghost use Rattle.memory_world.specs.Lendings.{top, top_setup};
 ghost use Rattle.memory_world.specs.Contract.{Met, any, every, if_sound, only, of_mut, of_ref};
 ghost use Rattle.machine_state.specs.Frame.{PushFits, CallFits};
 
+use heap::fault::Fault;
 use heap::value::Word;
+use machine_state::called::Did;
 use machine_state::frame::{push_at, push_frame};
 use memory_world::machine::{Machine, Sizes};
 use model::call::Answer;
-use model::coro::WordOr;
 use model::machine::Cont;
 
-// What a call leaves of the numbers, and answers.
-#[derive(Clone, Copy)]
-pub struct CallDid {
-    pub machine: Machine,
-    pub answer: Answer,
-}
-
 // A frame was pushed, or refused.
-fn pushed_as(a: WordOr) -> Answer
+fn pushed_as(a: Result<u64, Fault>) -> Answer
     ensures { (w u : World) → result ≡ (pushed_or w u a).answer }
 {
     match a {
-        WordOr::Word(_) => Answer::Accepted,
-        WordOr::Refused(f) => Answer::Refused(f),
+        Ok(_) => Answer::Accepted,
+        Err(f) => Answer::Refused(f),
     }
 }
 
@@ -39,14 +33,14 @@ pub fn host_call(
     m: Machine,
     sizes: Sizes,
     f: u64,
-) -> CallDid
+) -> Did<Answer>
     requires { PushFits sizes stack.now frames.old setup.now m f }
     ensures { Met if_sound sizes (host_call f) (top_setup (of_ref stack) (of_mut frames) (of_ref setup)) (only m) (only result.machine) result.answer }
 {
     let did = push_frame(stack, frames, setup, m, sizes, f, Word::NIL, Cont::Entry);
     let n = did.machine;
     let a = did.answer;
-    CallDid {
+    Did {
         machine: n,
         answer: pushed_as(a),
     }
@@ -62,14 +56,14 @@ pub fn function_call(
     pc: u64,
     f: u64,
     cont: Cont,
-) -> CallDid
+) -> Did<Answer>
     requires { CallFits sizes stack.now frames.old setup.now m pc f }
     ensures { Met if_sound sizes (function_call pc f cont) (top_setup (of_ref stack) (of_mut frames) (of_ref setup)) (only m) (only result.machine) result.answer }
 {
     let did = push_at(stack, frames, setup, m, sizes, pc, f, Word::NIL, cont);
     let n = did.machine;
     let a = did.answer;
-    CallDid {
+    Did {
         machine: n,
         answer: pushed_as(a),
     }

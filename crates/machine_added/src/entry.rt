@@ -5,23 +5,23 @@ ghost use Rattle.model.specs.Added.{host_arrive, host_entry};
 ghost use Rattle.memory_world.specs.Lendings.{six, plain};
 ghost use Rattle.memory_world.specs.Contract.{Ok, Met, if_sound, only, of_mut};
 
-use crate::call::CallDid;
 use coro_enter::arrival::arrive;
 use coro_enter::enter::coro_enter;
+use heap::fault::Fault;
 use heap::value::Word;
+use machine_state::called::Did;
 use memory_world::machine::{Machine, Sizes};
 use model::call::Answer;
 use model::coro::Entered;
 use model::machine::Driver;
 
 // A coroutine was entered, or refused.
-fn entered_as(a: Entered) -> Answer
+fn entered_as(a: Result<Entered, Fault>) -> Answer
     ensures { (v : ℕ) (w : World) → result ≡ (host_arrive v w a).answer }
 {
     match a {
-        Entered::Fresh => Answer::Accepted,
-        Entered::Suspended(_) => Answer::Accepted,
-        Entered::Refused(f) => Answer::Refused(f),
+        Ok(_) => Answer::Accepted,
+        Err(f) => Answer::Refused(f),
     }
 }
 
@@ -36,7 +36,7 @@ pub fn host_entry(
     sizes: Sizes,
     c: u64,
     v: u64,
-) -> CallDid
+) -> Did<Answer>
     requires { Ok sizes (six stack.old frames.old chain.old slots.old saved_stack.old saved_frames.old plain) (only m) }
     ensures { Met if_sound sizes (host_entry c v) (six (of_mut stack) (of_mut frames) (of_mut chain) (of_mut slots) (of_mut saved_stack) (of_mut saved_frames)) (only m) (only result.machine) result.answer }
 {
@@ -55,7 +55,7 @@ pub fn host_entry(
     let n = did.machine;
     let a = did.answer;
     arrive(stack, frames, n, a, v);
-    CallDid {
+    Did {
         machine: n,
         answer: entered_as(a),
     }

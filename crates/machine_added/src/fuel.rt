@@ -5,7 +5,7 @@ ghost use Rattle.memory_world.specs.Lendings.{none};
 ghost use Rattle.memory_world.specs.Contract.{Met, any, every, with};
 
 use heap::fault::Fault;
-use heap::value::{MOST64, Opt};
+use heap::value::MOST64;
 use memory_world::machine::Machine;
 use model::call::Answer;
 use model::machine::Fuel;
@@ -23,8 +23,8 @@ fn reserve(f: Fuel) -> u64
 {
     let bank = f.bank;
     match bank {
-        Opt::None => f.fuel,
-        Opt::Some(n) => n,
+        None => f.fuel,
+        Some(n) => n,
     }
 }
 
@@ -34,14 +34,14 @@ fn refuel(f: Fuel, n: u64) -> Fuel
 {
     let bank = f.bank;
     match bank {
-        Opt::None => Fuel {
+        None => Fuel {
             fuel: n,
-            bank: Opt::None,
+            bank: None,
             ready: f.ready,
         },
-        Opt::Some(_) => Fuel {
+        Some(_) => Fuel {
             fuel: f.fuel,
-            bank: Opt::Some(n),
+            bank: Some(n),
             ready: f.ready,
         },
     }

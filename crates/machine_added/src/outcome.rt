@@ -6,31 +6,31 @@ ghost use Rattle.memory_world.specs.Lendings.{none};
 ghost use Rattle.memory_world.specs.Contract.{Met, any, every, only};
 ghost use Rattle.machine_added.specs.Outcome.{untold};
 
-use crate::call::CallDid;
+use machine_state::called::Did;
 use memory_world::machine::{Machine, Told};
 use model::call::Answer;
-use model::machine::{Outcome, Stop};
+use model::machine::Stop;
 
 // The outcome that the words tell.
-fn outcome_in(t: Told) -> Outcome
+fn outcome_in(t: Told) -> Option<Stop>
     ensures { result ≡ outcome_in t }
 {
     if t.0 == 0 {
-        return Outcome::None;
+        return None;
     }
     if t.0 == 1 {
-        return Outcome::Some(Stop::Yielded(t.1));
+        return Some(Stop::Yielded(t.1));
     }
     if t.0 == 2 {
-        return Outcome::Some(Stop::Awaiting(t.1));
+        return Some(Stop::Awaiting(t.1));
     }
     if t.0 == 3 {
-        return Outcome::Some(Stop::Returned(t.1));
+        return Some(Stop::Returned(t.1));
     }
     if t.0 == 4 {
-        return Outcome::Some(Stop::Failed(t.1, t.2, t.3));
+        return Some(Stop::Failed(t.1, t.2, t.3));
     }
-    Outcome::Some(Stop::CloseIgnored)
+    Some(Stop::CloseIgnored)
 }
 
 // The numbers with no outcome.
@@ -52,12 +52,12 @@ fn untold(m: Machine) -> Machine
     }
 }
 
-pub fn take_outcome(m: Machine) -> CallDid
+pub fn take_outcome(m: Machine) -> Did<Answer>
     ensures { every (λ sizes. Met any sizes take_outcome none (only m) (only result.machine) result.answer) }
 {
     let t = m.outcome;
     let o = outcome_in(t);
-    CallDid {
+    Did {
         machine: untold(m),
         answer: Answer::Took(o),
     }

@@ -30,7 +30,7 @@ pub fn stop_run(
     m: Machine,
     sizes: Sizes,
     fuel: Fuel,
-) -> Called
+) -> Called<Answer>
     requires { Ok sizes (six stack.old frames.old chain.old slots.old saved_stack.old saved_frames.old plain) (with m fuel) }
     ensures { Met if_sound sizes stop_run (six (of_mut stack) (of_mut frames) (of_mut chain) (of_mut slots) (of_mut saved_stack) (of_mut saved_frames)) (with m fuel) (with result.machine result.fuel) result.answer }
 {

@@ -10,7 +10,7 @@ use Rattle.lists.proofs.Tests.{never}
 use Rattle.heap.specs.Fault.{number_of}
 use Rattle.heap.specs.declared.fault.Fault.{Fault}
 use Rattle.heap.specs.declared.heap.ResultKind.{ResultKind}
-use Rattle.heap.specs.declared.value.Opt.{Opt}
+use Rattle.std.specs.Prelude.{Option, Result, Err}
 use Rattle.model.specs.Lists.{each}
 use Rattle.model.specs.World.{World, after, and_then}
 use Rattle.model.specs.Frames.{is_coro, next_pc, pop_to}
@@ -19,7 +19,6 @@ use Rattle.model.specs.Coro.{coro_returned}
 use Rattle.model.specs.Machine.{result_of, apply_cont, resume_in, return_made, finish_as, finish_on, finish}
 use Rattle.model.specs.Sound.{frame_names, cont_lies, sound}
 use Rattle.model.specs.declared.call.Answer.{Answer}
-use Rattle.model.specs.declared.coro.WordOr.{WordOr}
 use Rattle.model.specs.declared.machine.Cont.{Cont}
 use Rattle.model.specs.declared.machine.Frame.{Frame}
 use Rattle.model.specs.declared.machine.Fuel.{Fuel}
@@ -44,12 +43,12 @@ use Rattle.machine_finish.proofs.Results.{dyn-still, apply-frames}
 
 -- ---- the caller goes on, or not
 
-module _ (l : Sizes) (M : Lent) (m : Machine) (f : Fuel) (w : World) (g : Fault) where
-  pub resumes : number_of g ≡ 0 → Rep l (next_pc w) M m f → Does l (resume_in w g) M m f Answer.Resume
-  resumes e rep = does l M m f (resume_in w g) (next_pc w) Answer.Resume (chosen _ _ _ (eq-eqb (number_of g) 0 e)) rep
+module _ (l : Sizes) (M : Lent) (m : Machine) (f : Fuel) (w : World) (r : Result Unit Fault) where
+  pub resumes : (u : Unit) → r ≡ Result.Ok u → Rep l (next_pc w) M m f → Does l (resume_in w r) M m f Answer.Resume
+  resumes u e rep = does l M m f (resume_in w r) (next_pc w) Answer.Resume (ap (resume_in w) e) rep
 
-  pub resumes-not : (number_of g ≡ 0 → ⊥) → Rep l w M m f → Does l (resume_in w g) M m f (Answer.Refused g)
-  resumes-not e rep = does l M m f (resume_in w g) w (Answer.Refused g) (passed _ _ _ (ne_eqb (number_of g) 0 e)) rep
+  pub resumes-not : (g : Fault) → r ≡ Err g → Rep l w M m f → Does l (resume_in w r) M m f (Answer.Refused g)
+  resumes-not g e rep = does l M m f (resume_in w r) w (Answer.Refused g) (ap (resume_in w) e) rep
 
 -- ---- the definition, by the continuation of the top frame
 
@@ -65,7 +64,7 @@ on-top l M m f w rep some c e =
     let t = some-top w.frames M.frames m.depth rep.frames some in
     record { top = t.top; rest = t.rest; are = t.are; is = sym (ap (λ (x : Frame). x.cont) t.is) ∙ e }
 
-pub no-frame : (kind : ResultKind) (v : ℕ) (w : World) (o : Opt) → w.frames ≡ [] → o ≡ result_of kind v → finish kind v w ≡ after w (Answer.Exit o)
+pub no-frame : (kind : ResultKind) (v : ℕ) (w : World) (o : Option ℕ) → w.frames ≡ [] → o ≡ result_of kind v → finish kind v w ≡ after w (Answer.Exit o)
 unfolding finish
 no-frame kind v w o e r = ap (λ fs. finish_on fs kind v w) e ∙ ap (λ y. after w (Answer.Exit y)) (sym r)
 
@@ -74,7 +73,7 @@ module _ (kind : ResultKind) (v : ℕ) (w : World) (c : Cont) (t : On w.frames c
   unfolding finish
   finish-as = ap (λ fs. finish_on fs kind v w) t.are ∙ ap (λ k. finish_as k t.top t.rest kind v w) t.is
 
-  pub finish-out : (o : Opt) → way_of c ≡ Way.Out → o ≡ result_of kind v → finish kind v w ≡ after (pop_top w) (Answer.Exit o)
+  pub finish-out : (o : Option ℕ) → way_of c ≡ Way.Out → o ≡ result_of kind v → finish kind v w ≡ after (pop_top w) (Answer.Exit o)
   finish-out o q r =
       finish-as ∙ ap (λ k. finish_as k t.top t.rest kind v w) (out-way c q) ∙ ap (λ y. after (pop_to t.top t.rest w) (Answer.Exit y)) (sym r)
       ∙ ap (λ fs. after (pop_on fs w) (Answer.Exit o)) (sym t.are)
@@ -126,7 +125,7 @@ module _ (l : Sizes) (M : Beside → Lent) (m : Machine) (c : Cont) (fits : EndF
         (subst (λ (fs : List Frame). each (frame_names u.setup) fs ≡ true) (sym (apply-frames c kind v u snd)) (names_in u snd))
 
 -- the result was applied, and the caller went on or not
-pub call_ends : (l : Sizes) (N : Lent) (n : Machine) (f : Fuel) (w : World) (c : Cont) (kind : ResultKind) (v : ℕ) → On w.frames c → way_of c ≡ Way.Caller → (g : Fault) (a : Answer)
+pub call_ends : (l : Sizes) (N : Lent) (n : Machine) (f : Fuel) (w : World) (c : Cont) (kind : ResultKind) (v : ℕ) → On w.frames c → way_of c ≡ Way.Caller → (g : Result Unit Fault) (a : Answer)
     → g ≡ (apply_cont c kind v (pop_top w)).answer → Does l (resume_in (apply_cont c kind v (pop_top w)).world g) N n f a → Does l (finish kind v w) N n f a
 call_ends l N n f w c kind v t q g a e next =
     subst (λ z. Does l z N n f a) (sym (finish-call kind v w c t q)) (subst (λ x. Does l (resume_in (apply_cont c kind v (pop_top w)).world x) N n f a) e next)
@@ -176,9 +175,9 @@ module _ (l : Sizes) (N : Lent) (n : Machine) (f : Fuel) (w : World) (kind : Res
   abbrev u : World
   u = (to_dyn kind v w).world
 
-  pub body_refused : (g : Fault) → WordOr.Refused g ≡ (to_dyn kind v w).answer → Rep l u N n f → Does l (finish kind v w) N n f (Answer.Refused g)
+  pub body_refused : (g : Fault) → Err g ≡ (to_dyn kind v w).answer → Rep l u N n f → Does l (finish kind v w) N n f (Answer.Refused g)
   body_refused g e rep = does l N n f (finish kind v w) u (Answer.Refused g) (finish-as kind v w Cont.Coro t ∙ ap (return_made t.top t.rest u) (sym e)) rep
 
-  pub body-returns : (z : ℕ) → WordOr.Word z ≡ (to_dyn kind v w).answer → Rep l (coro_returned z (pop_to t.top t.rest u)) N n f → Does l (finish kind v w) N n f Answer.Resume
+  pub body-returns : (z : ℕ) → Result.Ok z ≡ (to_dyn kind v w).answer → Rep l (coro_returned z (pop_to t.top t.rest u)) N n f → Does l (finish kind v w) N n f Answer.Resume
   body-returns z e rep =
       does l N n f (finish kind v w) (coro_returned z (pop_to t.top t.rest u)) Answer.Resume (finish-as kind v w Cont.Coro t ∙ ap (return_made t.top t.rest u) (sym e)) rep

@@ -7,14 +7,13 @@ use lib.ListN.{length}
 use Rattle.heap.specs.Heap as Heaped
 use Rattle.heap.specs.declared.fault.Fault.{Fault}
 use Rattle.heap.specs.declared.heap.ResultKind.{ResultKind}
-use Rattle.heap.specs.declared.value.Opt.{Opt}
+use Rattle.std.specs.Prelude.{Option, Result, Some, None, Ok, Err}
 use Rattle.model.specs.Lists.{each}
 use Rattle.model.specs.World.{World, after}
 use Rattle.model.specs.Frames.{put_reg}
 use Rattle.model.specs.Heap.{to_dyn}
 use Rattle.model.specs.Machine.{result_of, or_nil, write_result, write_made, apply_cont}
 use Rattle.model.specs.Sound.{frame_names, lies_under, cont_lies, sound}
-use Rattle.model.specs.declared.coro.WordOr.{WordOr}
 use Rattle.model.specs.declared.machine.Cont.{Cont}
 use Rattle.model.specs.declared.machine.Frame.{Frame}
 use Rattle.model.specs.declared.machine.Fuel.{Fuel}
@@ -34,55 +33,55 @@ use Rattle.machine_finish.specs.Finish.{ContFits}
 -- ---- what it leaves
 
 module _ (kind : ResultKind) (v : ℕ) (w : World) where
-  pub entry-is : apply_cont Cont.Entry kind v w ≡ after w Fault.None
+  pub entry-is : apply_cont Cont.Entry kind v w ≡ after w (Ok tt)
   unfolding apply_cont
   entry-is = refl
 
-  pub discard-is : apply_cont Cont.Discard kind v w ≡ after w Fault.None
+  pub discard-is : apply_cont Cont.Discard kind v w ≡ after w (Ok tt)
   unfolding apply_cont
   discard-is = refl
 
-  pub coro-is : apply_cont Cont.Coro kind v w ≡ after w Fault.None
+  pub coro-is : apply_cont Cont.Coro kind v w ≡ after w (Ok tt)
   unfolding apply_cont
   coro-is = refl
 
-  pub write-none : (dst : ℕ) → Opt.None ≡ result_of kind v → apply_cont (Cont.Write dst) kind v w ≡ after w Fault.None
+  pub write-none : (dst : ℕ) → None ≡ result_of kind v → apply_cont (Cont.Write dst) kind v w ≡ after w (Ok tt)
   unfolding apply_cont
-  write-none dst e = ap (λ o. after (write_result dst o w) Fault.None) (sym e)
+  write-none dst e = ap (λ o. after (write_result dst o w) (Ok tt)) (sym e)
 
-  pub write-some : (dst x : ℕ) → Opt.Some x ≡ result_of kind v → apply_cont (Cont.Write dst) kind v w ≡ after (put_reg dst x w) Fault.None
+  pub write-some : (dst x : ℕ) → Some x ≡ result_of kind v → apply_cont (Cont.Write dst) kind v w ≡ after (put_reg dst x w) (Ok tt)
   unfolding apply_cont
-  write-some dst x e = ap (λ o. after (write_result dst o w) Fault.None) (sym e)
+  write-some dst x e = ap (λ o. after (write_result dst o w) (Ok tt)) (sym e)
 
-  pub value-is : (dst x : ℕ) → x ≡ or_nil (result_of kind v) → apply_cont (Cont.Value dst) kind v w ≡ after (put_reg dst x w) Fault.None
+  pub value-is : (dst x : ℕ) → x ≡ or_nil (result_of kind v) → apply_cont (Cont.Value dst) kind v w ≡ after (put_reg dst x w) (Ok tt)
   unfolding apply_cont
-  value-is dst x e = ap (λ y. after (put_reg dst y w) Fault.None) (sym e)
+  value-is dst x e = ap (λ y. after (put_reg dst y w) (Ok tt)) (sym e)
 
-  pub dyn-put : (dst x : ℕ) → WordOr.Word x ≡ (to_dyn kind v w).answer → apply_cont (Cont.Dyn dst) kind v w ≡ after (put_reg dst x (to_dyn kind v w).world) Fault.None
+  pub dyn-put : (dst x : ℕ) → Ok x ≡ (to_dyn kind v w).answer → apply_cont (Cont.Dyn dst) kind v w ≡ after (put_reg dst x (to_dyn kind v w).world) (Ok tt)
   unfolding apply_cont
   dyn-put dst x e = ap (write_made dst (to_dyn kind v w).world) (sym e)
 
-  pub dyn-not : (dst : ℕ) (g : Fault) → WordOr.Refused g ≡ (to_dyn kind v w).answer → apply_cont (Cont.Dyn dst) kind v w ≡ after (to_dyn kind v w).world g
+  pub dyn-not : (dst : ℕ) (g : Fault) → Err g ≡ (to_dyn kind v w).answer → apply_cont (Cont.Dyn dst) kind v w ≡ after (to_dyn kind v w).world (Err g)
   unfolding apply_cont
   dyn-not dst g e = ap (write_made dst (to_dyn kind v w).world) (sym e)
 
   -- of a continuation that is known
-  pub applies : {l : Sizes} {M : Lent} {m : Machine} {f : Fuel} {c x : Cont} {u : World} → c ≡ x → apply_cont x kind v w ≡ after u Fault.None
-      → Rep l u M m f → Does l (apply_cont c kind v w) M m f Fault.None
-  applies {l} {M} {m} {f} {c} {x} {u} e q rep = does l M m f (apply_cont c kind v w) u Fault.None (ap (λ y. apply_cont y kind v w) e ∙ q) rep
+  pub applies : {l : Sizes} {M : Lent} {m : Machine} {f : Fuel} {c x : Cont} {u : World} → c ≡ x → apply_cont x kind v w ≡ after u (Ok tt)
+      → Rep l u M m f → Does l (apply_cont c kind v w) M m f (Ok tt)
+  applies {l} {M} {m} {f} {c} {x} {u} e q rep = does l M m f (apply_cont c kind v w) u (Ok tt) (ap (λ y. apply_cont y kind v w) e ∙ q) rep
 
 -- ---- what stays
 
 pub dyn-still : (kind : ResultKind) (v : ℕ) (w : World) → sound w ≡ true → Still w (to_dyn kind v w).world
 dyn-still kind v w snd = (dyn-good kind v w (known w snd)).fact.still
 
-made-frames : (dst : ℕ) (u : World) (a : WordOr) → (write_made dst u a).world.frames ≡ u.frames
-made-frames dst u (WordOr.Word v) = refl
-made-frames dst u (WordOr.Refused f) = refl
+made-frames : (dst : ℕ) (u : World) (a : Result ℕ Fault) → (write_made dst u a).world.frames ≡ u.frames
+made-frames dst u (Ok v) = refl
+made-frames dst u (Err f) = refl
 
-result-frames : (dst : ℕ) (o : Opt) (w : World) → (write_result dst o w).frames ≡ w.frames
-result-frames dst Opt.None w = refl
-result-frames dst (Opt.Some v) w = refl
+result-frames : (dst : ℕ) (o : Option ℕ) (w : World) → (write_result dst o w).frames ≡ w.frames
+result-frames dst None w = refl
+result-frames dst (Some v) w = refl
 
 pub apply-frames : (c : Cont) (kind : ResultKind) (v : ℕ) (w : World) → sound w ≡ true → (apply_cont c kind v w).world.frames ≡ w.frames
 unfolding apply_cont

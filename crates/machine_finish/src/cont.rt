@@ -9,37 +9,30 @@ ghost use Rattle.memory_world.specs.Contract.{Met, any, only, of_mut, of_ref};
 use crate::convert::to_dyn;
 use heap::fault::Fault;
 use heap::heap::ResultKind;
-use heap::value::{Opt, Word};
+use heap::value::Word;
+use machine_state::called::Did;
 use machine_state::frame::put;
 use memory_world::machine::{Machine, Sizes};
-use model::coro::WordOr;
 use model::machine::Cont;
 
-// What a result leaves of the numbers, and answers.
-#[derive(Clone, Copy)]
-pub struct Applied {
-    pub machine: Machine,
-    pub answer: Fault,
-}
-
 // The word, unless the kind is none.
-pub(crate) fn result_of(kind: ResultKind, v: u64) -> Opt
+pub(crate) fn result_of(kind: ResultKind, v: u64) -> Option<u64>
     ensures { result ≡ result_of kind v }
 {
     match kind {
-        ResultKind::None => Opt::None,
-        ResultKind::Dyn => Opt::Some(v),
-        ResultKind::I64 => Opt::Some(v),
-        ResultKind::U64 => Opt::Some(v),
+        ResultKind::None => None,
+        ResultKind::Dyn => Some(v),
+        ResultKind::I64 => Some(v),
+        ResultKind::U64 => Some(v),
     }
 }
 
-fn or_nil(o: Opt) -> u64
+fn or_nil(o: Option<u64>) -> u64
     ensures { result ≡ or_nil o }
 {
     match o {
-        Opt::None => Word::NIL,
-        Opt::Some(v) => v,
+        None => Word::NIL,
+        Some(v) => v,
     }
 }
 
@@ -53,7 +46,7 @@ fn write_dyn(
     dst: u64,
     kind: ResultKind,
     v: u64,
-) -> Applied
+) -> Did<Result<(), Fault>>
     requires { ContFits sizes (top_table stack.old frames.now slots.old plain) m (Dyn dst) }
     ensures { Met any sizes (apply_cont (Dyn dst) kind v) (top_table (of_mut stack) (of_ref frames) (of_mut slots)) (only m) (only result.machine) result.answer }
 {
@@ -61,16 +54,16 @@ fn write_dyn(
     let n = did.machine;
     let made = did.answer;
     match made {
-        WordOr::Word(x) => {
+        Ok(x) => {
             put(stack, frames, n, dst, x);
-            Applied {
+            Did {
                 machine: n,
-                answer: Fault::None,
+                answer: Ok(()),
             }
         }
-        WordOr::Refused(f) => Applied {
+        Err(f) => Did {
             machine: n,
-            answer: f,
+            answer: Err(f),
         },
     }
 }
@@ -85,7 +78,7 @@ pub(crate) fn apply_cont(
     cont: Cont,
     kind: ResultKind,
     v: u64,
-) -> Applied
+) -> Did<Result<(), Fault>>
     requires { ContFits sizes (top_table stack.old frames.now slots.old plain) m cont }
     ensures { Met any sizes (apply_cont cont kind v) (top_table (of_mut stack) (of_ref frames) (of_mut slots)) (only m) (only result.machine) result.answer }
 {
@@ -94,8 +87,8 @@ pub(crate) fn apply_cont(
         Cont::Write(dst) => {
             let result = result_of(kind, v);
             match result {
-                Opt::None => {}
-                Opt::Some(x) => put(stack, frames, m, dst, x),
+                None => {}
+                Some(x) => put(stack, frames, m, dst, x),
             }
         }
         Cont::Dyn(dst) => return write_dyn(stack, frames, slots, m, sizes, dst, kind, v),
@@ -106,8 +99,8 @@ pub(crate) fn apply_cont(
         Cont::Discard => {}
         Cont::Coro => {}
     }
-    Applied {
+    Did {
         machine: m,
-        answer: Fault::None,
+        answer: Ok(()),
     }
 }

@@ -5,11 +5,11 @@ ghost use Rattle.machine_state.specs.Numbers.{heap_of};
 ghost use Rattle.memory_world.specs.Lendings.{table};
 ghost use Rattle.memory_world.specs.Contract.{Met, any, only, of_mut};
 
+use heap::fault::Fault;
 use heap::heap::ResultKind;
+use machine_state::called::Did;
 use machine_state::numbers::{allocated, heap_of};
-use machine_state::object::WordDid;
 use memory_world::machine::{Machine, Sizes};
-use model::coro::WordOr;
 
 // A result of a kind as a dynamic word; nil for none.
 pub(crate) fn to_dyn(
@@ -18,19 +18,19 @@ pub(crate) fn to_dyn(
     sizes: Sizes,
     kind: ResultKind,
     v: u64,
-) -> WordDid
+) -> Did<Result<u64, Fault>>
     requires { Room slots.old (heap_of m sizes) }
     ensures { Met any sizes (to_dyn kind v) (table (of_mut slots)) (only m) (only result.machine) result.answer }
 {
     let costs = sizes.costs;
     match heap::heap::to_dyn(slots, heap_of(m, sizes), costs.int, kind, v) {
-        heap::heap::Made::Refused(g) => WordDid {
+        Err(g) => Did {
             machine: m,
-            answer: WordOr::Refused(g),
+            answer: Err(g),
         },
-        heap::heap::Made::Done(x, h) => WordDid {
+        Ok((x, h)) => Did {
             machine: allocated(m, h),
-            answer: WordOr::Word(x.0),
+            answer: Ok(x.0),
         },
     }
 }

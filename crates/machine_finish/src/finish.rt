@@ -11,31 +11,25 @@ use crate::convert::to_dyn;
 use coro_end::returned::coro_returned;
 use heap::fault::Fault;
 use heap::heap::ResultKind;
-use machine_state::called::Called;
+use machine_state::called::{Called, Did};
 use machine_state::frame::{next_pc, pop};
 use machine_state::way::{Way, way_of};
 use memory_world::machine::{Machine, Sizes};
 use model::call::Answer;
-use model::coro::WordOr;
 use model::machine::{Cont, Fuel};
 
-// What the end of a call leaves of the numbers, and answers.
-#[derive(Clone, Copy)]
-pub struct FinishDid {
-    pub machine: Machine,
-    pub answer: Answer,
-}
-
 // The caller goes on, unless its result was refused.
-fn resume_in(frames: &mut [u64], m: Machine, f: Fault) -> Answer
+fn resume_in(frames: &mut [u64], m: Machine, r: Result<(), Fault>) -> Answer
     requires { StepFits frames.old m.depth }
-    ensures { every (λ sizes. Met any sizes (λ w. resume_in w f) (frame (of_mut frames)) (only m) (only m) result) }
+    ensures { every (λ sizes. Met any sizes (λ w. resume_in w r) (frame (of_mut frames)) (only m) (only m) result) }
 {
-    if f.number() == 0 {
-        next_pc(frames, m);
-        return Answer::Resume;
+    match r {
+        Ok(()) => {
+            next_pc(frames, m);
+            Answer::Resume
+        }
+        Err(f) => Answer::Refused(f),
     }
-    Answer::Refused(f)
 }
 
 // A call ends: its frame goes, and the result to its caller.
@@ -48,16 +42,16 @@ fn end_call(
     cont: Cont,
     kind: ResultKind,
     v: u64,
-) -> FinishDid
+) -> Did<Answer>
     requires { EndFits sizes (top_table stack.old frames.old slots.old plain) m cont }
     ensures { Met any sizes (finish kind v) (top_table (of_mut stack) (of_mut frames) (of_mut slots)) (only m) (only result.machine) result.answer }
 {
     let n = pop(stack, frames, m);
     let did = apply_cont(stack, frames, slots, n, sizes, cont, kind, v);
     let k = did.machine;
-    let fault = did.answer;
-    let answer = resume_in(frames, k, fault);
-    FinishDid { machine: k, answer }
+    let applied = did.answer;
+    let answer = resume_in(frames, k, applied);
+    Did { machine: k, answer }
 }
 
 // machine.rs: finish_coro. A body ends, and its result goes to whoever drove it; one that does not convert leaves the frame.
@@ -73,7 +67,7 @@ fn finish_coro(
     fuel: Fuel,
     kind: ResultKind,
     v: u64,
-) -> Called
+) -> Called<Answer>
     requires { TopFits sizes (six stack.old frames.old chain.old slots.old saved_stack.old saved_frames.old plain) m Coro }
     ensures { Met if_sound sizes (finish kind v) (six (of_mut stack) (of_mut frames) (of_mut chain) (of_mut slots) (of_mut saved_stack) (of_mut saved_frames)) (with m fuel) (with result.machine result.fuel) result.answer }
 {
@@ -81,12 +75,12 @@ fn finish_coro(
     let n = did.machine;
     let made = did.answer;
     match made {
-        WordOr::Refused(e) => Called {
+        Err(e) => Called {
             machine: n,
             fuel,
             answer: Answer::Refused(e),
         },
-        WordOr::Word(x) => {
+        Ok(x) => {
             let k = pop(stack, frames, n);
             let told = coro_returned(
                 stack,
@@ -124,7 +118,7 @@ pub fn finish(
     fuel: Fuel,
     kind: ResultKind,
     v: u64,
-) -> Called
+) -> Called<Answer>
     requires { Ok sizes (six stack.old frames.old chain.old slots.old saved_stack.old saved_frames.old plain) (only m) }
     ensures { Met if_sound sizes (finish kind v) (six (of_mut stack) (of_mut frames) (of_mut chain) (of_mut slots) (of_mut saved_stack) (of_mut saved_frames)) (with m fuel) (with result.machine result.fuel) result.answer }
 {

@@ -9,7 +9,6 @@ use lib.Dec.{ltb, leb}
 use borrow.Author.Tests.{ltb-true, ltb-false, le-leb, lt-leb}
 use Rattle.lists.specs.Pick.{pick}
 use Rattle.heap.specs.Word.{reference}
-use Rattle.heap.specs.Fault.{is_none}
 use Rattle.heap.specs.Charge as Charge
 use Rattle.heap.specs.Charge.{sat_add}
 use Rattle.heap.specs.Table.{Slot, slot, push_object, next_word}
@@ -17,16 +16,15 @@ use Rattle.heap.specs.Heap as Heaped
 use Rattle.heap.specs.Heap.{out, alloc_of, put_slot, TableFits}
 use Rattle.heap.specs.declared.fault.Fault.{Fault}
 use Rattle.heap.specs.declared.heap.Heap.{Heap}
-use Rattle.heap.specs.declared.heap.Made as HM
-use Rattle.heap.specs.declared.heap.Made.TheVariants as H
+use Rattle.std.specs.Prelude.{Result, Ok, Err}
 use Rattle.heap.specs.declared.value.Word.{Word}
 use Rattle.model.specs.Object.{Object, Absent, as_coro}
 use Rattle.model.specs.World.{World, After, after, with_slots, with_used}
 use Rattle.model.specs.Heap.{fits, slots_full, refuse, alloc}
 use Rattle.model.specs.Sound.{row_words, sound}
+use Rattle.lists.proofs.Tests.{never}
 use Rattle.claims_sound.proofs.Tests.{no_false}
 use Rattle.claims_sound.proofs.Sound.{sound→, facts}
-use Rattle.model.specs.declared.coro.WordOr.{WordOr}
 use Rattle.model.specs.declared.machine.Fuel.{Fuel}
 use Rattle.memory_tables.specs.Parts.{SavedStack, SavedFrames}
 use Rattle.memory_tables.specs.Sizes.{frames_size}
@@ -66,14 +64,17 @@ full-not a b = go (ltb a b) refl
     go true e = lt-leb b a (ltb-true a b e)
     go false e = le-leb b a (ltb-false a b e)
 
-refuses : (a b : Bool) (w : World) (g : Fault) (o : After WordOr) → g ≡ pick a (pick b Fault.None Fault.Full) Fault.OutOfMemory → is_none g ≡ false
+abbrev lacking : Bool → Bool → Result Unit Fault
+lacking a b = pick a (pick b (Ok tt) (Err Fault.Full)) (Err Fault.OutOfMemory)
+
+refuses : (a b : Bool) (w : World) (g : Fault) (o : After (Result ℕ Fault)) → Err g ≡ lacking a b
     → pick (not a) (refuse w Fault.OutOfMemory) (pick (not b) (refuse w Fault.Full) o) ≡ refuse w g
 unfolding pick
-refuses true true w g o e n = absurd (let z : true ≡ false = sym (ap is_none e) ∙ n in let y : ◌≡◌ {A = ℕ} 0 1 = cc in omega arith)
-refuses true false w g o e n = ap (refuse w) (sym e)
-refuses false b w g o e n = ap (refuse w) (sym e)
+refuses true true w g o e = never cc
+refuses true false w g o e = let z : Fault.Full ≡ g = cc in ap (refuse w) z
+refuses false b w g o e = let z : Fault.OutOfMemory ≡ g = cc in ap (refuse w) z
 
-passes : (a b : Bool) (w : World) (o : After WordOr) → a ≡ true → b ≡ true → pick (not a) (refuse w Fault.OutOfMemory) (pick (not b) (refuse w Fault.Full) o) ≡ o
+passes : (a b : Bool) (w : World) (o : After (Result ℕ Fault)) → a ≡ true → b ≡ true → pick (not a) (refuse w Fault.OutOfMemory) (pick (not b) (refuse w Fault.Full) o) ≡ o
 unfolding pick
 passes a b w o p q = rw (p, q)
 
@@ -99,15 +100,15 @@ module _ (l : Sizes) (M : Lent) (m : Machine) (f : Fuel) (w : World) (rep : Rep 
     abbrev b : Bool
     b = ltb m.count l.slots
 
-    model : alloc bytes o w ≡ pick (not a) (refuse w Fault.OutOfMemory) (pick (not b) (refuse w Fault.Full) (after pushed (WordOr.Word (next_word w.slots))))
+    model : alloc bytes o w ≡ pick (not a) (refuse w Fault.OutOfMemory) (pick (not b) (refuse w Fault.Full) (after pushed (Ok (next_word w.slots))))
     unfolding alloc
     model =
-        ap₂ (λ x y. pick (not x) (refuse w Fault.OutOfMemory) (pick y (refuse w Fault.Full) (after pushed (WordOr.Word (next_word w.slots))))) (fits-same bytes) full-same
+        ap₂ (λ x y. pick (not x) (refuse w Fault.OutOfMemory) (pick y (refuse w Fault.Full) (after pushed (Ok (next_word w.slots))))) (fits-same bytes) full-same
 
-    pub alloc-refused : (ws' : List ℕ) (g : Fault) → Lacking M.slots ws' (heap_of m l) bytes g → Does l (alloc bytes o w) (on_slots ws' M) m f (WordOr.Refused g)
+    pub alloc-refused : (ws' : List ℕ) (g : Fault) → Lacking M.slots ws' (heap_of m l) bytes g → Does l (alloc bytes o w) (on_slots ws' M) m f (Err g)
     alloc-refused ws' g k =
-        subst (λ z. Does l (alloc bytes o w) (on_slots z M) m f (WordOr.Refused g)) (sym k.words)
-        (does l M m f (alloc bytes o w) w (WordOr.Refused g) (model ∙ refuses a b w g _ k.fault k.some) rep)
+        subst (λ z. Does l (alloc bytes o w) (on_slots z M) m f (Err g)) (sym k.words)
+        (does l M m f (alloc bytes o w) w (Err g) (model ∙ refuses a b w g _ k.fault) rep)
 
     module _ (ws' saved_stack' saved_frames' : List ℕ) (h' : Heap) (v : Word) (k : Done M.slots ws' (heap_of m l) h' bytes (to_object o) v) (room : TableFits M.slots l.slots) where
       slots-after : Slots (to_slots (push_object w.slots o)) ws' h'.count
@@ -121,27 +122,27 @@ module _ (l : Sizes) (M : Lent) (m : Machine) (f : Fuel) (w : World) (rep : Rep 
 
       pub alloc-made : SavedStack (row_words w.setup) (regs_rows w.setup.limits.rows (push_object w.slots o)) saved_stack'
           → SavedFrames (frames_size w.setup) (frames_rows w.setup.limits.rows (push_object w.slots o)) saved_frames'
-          → Does l (alloc bytes o w) (on_slots ws' (on_saved saved_stack' saved_frames' M)) (allocated m h') f (WordOr.Word v.0)
+          → Does l (alloc bytes o w) (on_slots ws' (on_saved saved_stack' saved_frames' M)) (allocated m h') f (Ok v.0)
       alloc-made on up =
-          does l (on_slots ws' (on_saved saved_stack' saved_frames' M)) (allocated m h') f (alloc bytes o w) pushed (WordOr.Word v.0)
-          (model ∙ passes a b w _ k.fit k.left ∙ ap (λ n. after pushed (WordOr.Word n)) (sym (k.word ∙ ap (λ n. reference n 0) count-is)))
+          does l (on_slots ws' (on_saved saved_stack' saved_frames' M)) (allocated m h') f (alloc bytes o w) pushed (Ok v.0)
+          (model ∙ passes a b w _ k.fit k.left ∙ ap (λ n. after pushed (Ok n)) (sym (k.word ∙ ap (λ n. reference n 0) count-is)))
           (turn-used l (with_slots (push_object w.slots o) w) (on_slots ws' (on_saved saved_stack' saved_frames' M)) (with_count h'.count m) f
           (turn-slots l w M m f rep (push_object w.slots o) ws' saved_stack' saved_frames' h'.count slots-after on up)
           h'.used (sat_add w.used bytes) (k.used ∙ ap (λ n. sat_add n bytes) rep.used))
 
     -- an object that owns no row
-    module _ (unowned : as_coro o ≡ Absent) (ws' : List ℕ) (h : Heap) (r : HM.Made) (told : out r ws' ≡ alloc_of M.slots h bytes (to_object o)) (is-heap : h ≡ heap_of m l) where
-      answered : (r₀ : HM.Made) → r ≡ r₀ → out r₀ ws' ≡ alloc_of M.slots (heap_of m l) bytes (to_object o)
+    module _ (unowned : as_coro o ≡ Absent) (ws' : List ℕ) (h : Heap) (r : Result (Word × Heap) Fault) (told : out r ws' ≡ alloc_of M.slots h bytes (to_object o)) (is-heap : h ≡ heap_of m l) where
+      answered : (r₀ : Result (Word × Heap) Fault) → r ≡ r₀ → out r₀ ws' ≡ alloc_of M.slots (heap_of m l) bytes (to_object o)
       answered r₀ e = ap (λ x. out x ws') (sym e) ∙ told ∙ ap (λ x. alloc_of M.slots x bytes (to_object o)) is-heap
 
-      pub plain-refused : (g : Fault) → r ≡ H.Refused g → Does l (alloc bytes o w) (on_slots ws' M) m f (WordOr.Refused g)
-      plain-refused g e = alloc-refused ws' g (alloc-lacks M.slots (heap_of m l) bytes (to_object o) ws' g (answered (H.Refused g) e))
+      pub plain-refused : (g : Fault) → r ≡ Err g → Does l (alloc bytes o w) (on_slots ws' M) m f (Err g)
+      plain-refused g e = alloc-refused ws' g (alloc-lacks M.slots (heap_of m l) bytes (to_object o) ws' g (answered (Err g) e))
 
-      pub plain-made : TableFits M.slots l.slots → (v : Word) (h' : Heap) (m' : Machine) → r ≡ H.Done v h' → m' ≡ allocated m h' → Does l (alloc bytes o w) (on_slots ws' M) m' f (WordOr.Word v.0)
+      pub plain-made : TableFits M.slots l.slots → (v : Word) (h' : Heap) (m' : Machine) → r ≡ Ok (v, h') → m' ≡ allocated m h' → Does l (alloc bytes o w) (on_slots ws' M) m' f (Ok v.0)
       plain-made room v h' m' e em =
           let s = w.setup in
-          subst (λ z. Does l (alloc bytes o w) (on_slots ws' M) z f (WordOr.Word v.0)) (sym em)
-          (alloc-made ws' M.saved_stack M.saved_frames h' v (alloc-done M.slots (heap_of m l) bytes (to_object o) ws' v h' (answered (H.Done v h') e)) room
+          subst (λ z. Does l (alloc bytes o w) (on_slots ws' M) z f (Ok v.0)) (sym em)
+          (alloc-made ws' M.saved_stack M.saved_frames h' v (alloc-done M.slots (heap_of m l) bytes (to_object o) ws' v h' (answered (Ok (v, h')) e)) room
           (subst (λ z. SavedStack (row_words s) z M.saved_stack) (sym (regs_same w.slots o unowned s.limits.rows)) rep.saved_stack)
           (subst (λ z. SavedFrames (frames_size s) z M.saved_frames) (sym (frames-same w.slots o unowned s.limits.rows)) rep.saved_frames))
 

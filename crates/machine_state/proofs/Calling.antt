@@ -11,7 +11,7 @@ use Rattle.model.specs.World.{World, After, and_then}
 use Rattle.model.specs.Frames.{on_top, set_pc, store_pc}
 use Rattle.model.specs.Machine.{push_frame}
 use Rattle.model.specs.Sound.{sound}
-use Rattle.model.specs.declared.coro.WordOr.{WordOr}
+use Rattle.std.specs.Prelude.{Result, Err}
 use Rattle.model.specs.declared.machine.Cont.{Cont}
 use Rattle.model.specs.declared.machine.Frame.{Frame}
 use Rattle.model.specs.declared.machine.Fuel.{Fuel}
@@ -37,14 +37,14 @@ module _ (l : Sizes) (w : World) (M : Lent) (m : Machine) (fuel : Fuel) (rep : R
       ap (λ k. leb w.setup.limits.depth k || ltb w.setup.limits.stack (length w.stack + (func w.setup f).regs)) (same-depth (set_pc pc) w.frames)
       ∙ same_test l w M m fuel rep snd f function closure cont
 
-  pub call-refused : overflowing m l (function_in M.setup f).regs ≡ true → Does l (push_at pc f closure cont w) M m fuel (WordOr.Refused Fault.StackOverflow)
+  pub call-refused : overflowing m l (function_in M.setup f).regs ≡ true → Does l (push_at pc f closure cont w) M m fuel (Err Fault.StackOverflow)
   unfolding push_frame push_at
   call-refused e =
-      does l M m fuel (push_at pc f closure cont w) w (WordOr.Refused Fault.StackOverflow) (ap (λ (o : After WordOr). and_then o (pushed_or w)) (chosen _ _ _ (tested ∙ e))) rep
+      does l M m fuel (push_at pc f closure cont w) w (Err Fault.StackOverflow) (ap (λ (o : After (Result ℕ Fault)). and_then o (pushed_or w)) (chosen _ _ _ (tested ∙ e))) rep
 
-  pub call-done : (M' : Lent) (m' : Machine) (a : WordOr) → overflowing m l (function_in M.setup f).regs ≡ false → Does l (push_frame f closure cont (store_pc pc w)) M' m' fuel a
+  pub call-done : (M' : Lent) (m' : Machine) (a : Result ℕ Fault) → overflowing m l (function_in M.setup f).regs ≡ false → Does l (push_frame f closure cont (store_pc pc w)) M' m' fuel a
       → Does l (push_at pc f closure cont w) M' m' fuel a
   unfolding push_frame push_at
   call-done M' m' a e d =
       let p = passed _ _ _ (tested ∙ e) in
-      subst (λ (o : After WordOr). Does l o M' m' fuel a) (p ∙ sym (ap (λ (o : After WordOr). and_then o (pushed_or w)) p)) d
+      subst (λ (o : After (Result ℕ Fault)). Does l o M' m' fuel a) (p ∙ sym (ap (λ (o : After (Result ℕ Fault)). and_then o (pushed_or w)) p)) d

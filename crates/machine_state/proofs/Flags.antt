@@ -8,7 +8,7 @@ use lib.ListN.{length}
 use lib.Dec.{eqb}
 use borrow.Author.Tests.{ne_eqb}
 use Rattle.lists.specs.Pick.{pick, pick_true, pick-false}
-use Rattle.heap.specs.declared.value.Opt.{Opt}
+use Rattle.std.specs.Prelude.{Some, None}
 use Rattle.model.specs.Lists.{is_nil}
 use Rattle.model.specs.World.{World, with_fuel, with_finalizing}
 use Rattle.model.specs.Fuel.{unbank_at, unbank, arm_at, arm_close, fuel_of, set_ready, set_finalizing}
@@ -21,14 +21,14 @@ use Rattle.memory_world.proofs.Turn.{turn-fuel, turn-finalizing}
 
 -- ---- the fuel set aside, and taken back
 
-pub taken_back : (f : Fuel) (n : ℕ) → f.bank ≡ Opt.Some n → fuel_of n Opt.None f.ready ≡ unbank_at f.bank f
+pub taken_back : (f : Fuel) (n : ℕ) → f.bank ≡ Some n → fuel_of n None f.ready ≡ unbank_at f.bank f
 taken_back f n e = sym (ap (λ b. unbank_at b f) e)
 
-pub set-aside : (f : Fuel) → f.bank ≡ Opt.None → f.ready ≡ true → fuel_of 0 (Opt.Some f.fuel) f.ready ≡ arm_at f.bank f
-set-aside f e r = sym (ap (λ b. arm_at b f) e ∙ ap (λ t. pick t (fuel_of 0 (Opt.Some f.fuel) f.ready) f) r ∙ pick_true _ _)
+pub set-aside : (f : Fuel) → f.bank ≡ None → f.ready ≡ true → fuel_of 0 (Some f.fuel) f.ready ≡ arm_at f.bank f
+set-aside f e r = sym (ap (λ b. arm_at b f) e ∙ ap (λ t. pick t (fuel_of 0 (Some f.fuel) f.ready) f) r ∙ pick_true _ _)
 
-pub left_alone : (f : Fuel) → f.bank ≡ Opt.None → f.ready ≡ false → f ≡ arm_at f.bank f
-left_alone f e r = sym (ap (λ b. arm_at b f) e ∙ ap (λ t. pick t (fuel_of 0 (Opt.Some f.fuel) f.ready) f) r ∙ pick-false _ _)
+pub left_alone : (f : Fuel) → f.bank ≡ None → f.ready ≡ false → f ≡ arm_at f.bank f
+left_alone f e r = sym (ap (λ b. arm_at b f) e ∙ ap (λ t. pick t (fuel_of 0 (Some f.fuel) f.ready) f) r ∙ pick-false _ _)
 
 -- ---- numbers and worlds
 

@@ -10,11 +10,11 @@ use borrow.Author.Tests.{le-leb, lt-leb, lt-ltb, le-ltb, ltb-false, leb-false}
 use Rattle.lists.specs.Pick.{pick}
 use Rattle.heap.specs.declared.fault.Fault.{Fault}
 use Rattle.model.specs.Program.{Setup, func}
-use Rattle.model.specs.World.{World, after, with_stack, with_frames}
+use Rattle.model.specs.World.{World, After, after, with_stack, with_frames}
 use Rattle.model.specs.Frames.{frame, step_pc, on_top, next_pc}
 use Rattle.model.specs.Machine.{push_frame}
 use Rattle.model.specs.Sound.{sound}
-use Rattle.model.specs.declared.coro.WordOr.{WordOr}
+use Rattle.std.specs.Prelude.{Result, Ok, Err}
 use Rattle.model.specs.declared.machine.Cont.{Cont}
 use Rattle.model.specs.declared.machine.Frame.{Frame}
 use Rattle.model.specs.declared.machine.Fuel.{Fuel}
@@ -131,10 +131,10 @@ module _ (l : Sizes) (w : World) (M : Lent) (m : Machine) (fuel : Fuel) (rep : R
           ∙ ap₂ (λ a b. leb l.depth a || ltb l.stack (b + (func s f).regs)) (sym rep.frames.count) (sym rep.stack.count)
           ∙ ap (λ a. leb l.depth m.depth || ltb l.stack (m.height + a)) (sym width_is)
 
-      pub push-refused : overflowing m l n ≡ true → Does l (push_frame f closure cont w) M m fuel (WordOr.Refused Fault.StackOverflow)
+      pub push-refused : overflowing m l n ≡ true → Does l (push_frame f closure cont w) M m fuel (Err Fault.StackOverflow)
       unfolding push_frame
       push-refused e =
-          subst (λ z. Does l z M m fuel (WordOr.Refused Fault.StackOverflow)) (sym (chosen _ _ _ (same_test ∙ e)))
+          subst (λ (z : After (Result ℕ Fault)). Does l z M m fuel (Err Fault.StackOverflow)) (sym (chosen _ _ _ (same_test ∙ e)))
           (record { world = rep; answer = refl })
 
       pub record Fitting : Type 0 where
@@ -155,7 +155,7 @@ module _ (l : Sizes) (w : World) (M : Lent) (m : Machine) (fuel : Fuel) (rep : R
           record { frames = omega arith; height = omega arith; depth = omega arith }
 
       pub push-done : l.stack ≤ length M.stack → overflowing m l n ≡ false → (frames' : List ℕ) → FramesDo (λ fs. frame f m.height closure cont ∷ fs) M.frames frames' m.depth (m.depth + 1)
-          → Does l (push_frame f closure cont w) (on_frames frames' M) (pushed m n) fuel (WordOr.Word m.height)
+          → Does l (push_frame f closure cont w) (on_frames frames' M) (pushed m n) fuel (Ok m.height)
       unfolding push_frame
       push-done q e frames' pushes =
           let b = ltb-false l.stack (m.height + n) (or-second (leb l.depth m.depth) (ltb l.stack (m.height + n)) e) in
@@ -163,7 +163,7 @@ module _ (l : Sizes) (w : World) (M : Lent) (m : Machine) (fuel : Fuel) (rep : R
           let x : World = with_stack (w.stack ++ replicate n 0) w in
           let u = turn-stack l w M m fuel rep (w.stack ++ replicate n 0) M.stack (m.height + n) grow in
           let t = turn-frames l x M (with_height (m.height + n) m) fuel u (frame f m.height closure cont ∷ w.frames) frames' (m.depth + 1) (pushes w.frames rep.frames) in
-          subst (λ o. Does l o (on_frames frames' M) (pushed m n) fuel (WordOr.Word m.height))
+          subst (λ (o : After (Result ℕ Fault)). Does l o (on_frames frames' M) (pushed m n) fuel (Ok m.height))
           (sym (passed _ _ _ (same_test ∙ e)
-          ∙ ap₂ (λ k base. after (with_frames (frame f base closure cont ∷ w.frames) (with_stack (w.stack ++ replicate k 0) w)) (WordOr.Word base)) (sym width_is) (sym rep.stack.count)))
+          ∙ ap₂ (λ k base. after (with_frames (frame f base closure cont ∷ w.frames) (with_stack (w.stack ++ replicate k 0) w)) (Ok base)) (sym width_is) (sym rep.stack.count)))
           (record { world = t; answer = refl })

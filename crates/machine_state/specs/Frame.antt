@@ -1,9 +1,9 @@
 -- machine.rs: frames and registers on the lent words.
-use Rattle.std.specs.Prelude.{Bool, ◌||◌, List, [], ◌∷◌, ℕ, ◌+◌, ◌-◌, ◌*◌, ◌^◌, ◌≤◌, ◌<◌, length, get_or, ltb, leb}
+use Rattle.std.specs.Prelude.{Bool, ◌||◌, List, [], ◌∷◌, ℕ, ◌+◌, ◌-◌, ◌*◌, ◌^◌, ◌≤◌, ◌<◌, length, get_or, ltb, leb, Result, Err}
 use Rattle.model.specs.World.{World, After, after, and_then}
 use Rattle.model.specs.Frames.{store_pc, pop_to}
 use Rattle.model.specs.Machine.{push_frame}
-use Rattle.model.specs.declared.coro.WordOr.{WordOr}
+use Rattle.heap.specs.declared.fault.Fault.{Fault}
 use Rattle.model.specs.declared.machine.Cont.{Cont}
 use Rattle.model.specs.declared.machine.Frame.{Frame}
 use Rattle.memory_tables.specs.Layout.{base_in}
@@ -39,11 +39,11 @@ pub record PushFits (sizes : Sizes) (stack frames setup : List ℕ) (m : Machine
   pub function : f < get_or setup 13 0
 
 -- a frame pushed by a call at pc: the pc is stored only if the frame fits
-abbrev pub pushed_or : World → World → WordOr → After WordOr
-pushed_or w u (WordOr.Word base) = after u (WordOr.Word base)
-pushed_or w u (WordOr.Refused f) = after w (WordOr.Refused f)
+abbrev pub pushed_or : World → World → Result ℕ Fault → After (Result ℕ Fault)
+pushed_or w u (Result.Ok base) = after u (Result.Ok base)
+pushed_or w u (Err f) = after w (Err f)
 
-unfoldable pub push_at : ℕ → ℕ → ℕ → Cont → World → After WordOr
+unfoldable pub push_at : ℕ → ℕ → ℕ → Cont → World → After (Result ℕ Fault)
 push_at pc f closure cont w = and_then (push_frame f closure cont (store_pc pc w)) (pushed_or w)
 
 -- .. and a frame stands there that calls

@@ -1,12 +1,11 @@
 -- machine.rs: Machine::new, on the lent words.
-use Rattle.std.specs.Prelude.{◌≡◌, false, List, ℕ, ◌*◌, ◌≤◌, length, get_or, replicate}
+use Rattle.std.specs.Prelude.{◌≡◌, false, List, ℕ, ◌*◌, ◌≤◌, length, get_or, replicate, None}
 use Rattle.heap.specs.Table.{Slot, slot}
 use Rattle.heap.specs.declared.object.Object as H
 use Rattle.heap.specs.declared.object.Object.TheVariants as O
 use Rattle.heap.specs.Heap.{TableFits}
 use Rattle.model.specs.Program.{Setup}
 use Rattle.model.specs.World.{fresh}
-use Rattle.model.specs.declared.machine.Outcome.{Outcome}
 use Rattle.memory_tables.specs.Sizes.{setup_words}
 use Rattle.memory_world.specs.Told.{told}
 use Rattle.memory_world.specs.Memory.{Lent, tabled, Rep, Room, Sized}
@@ -22,7 +21,7 @@ Cleared ws ws' = ws' ≡ replicate (length ws) 0
 
 -- the numbers of a machine that has not begun, with n slots taken
 abbrev pub start : ℕ → Machine
-start n = record { height = 0; depth = 0; active = 0; count = n; ready = 0; finalize = 0; finalizing = false; outcome = told Outcome.None; used = 0; seq = 0 }
+start n = record { height = 0; depth = 0; active = 0; count = n; ready = 0; finalize = 0; finalizing = false; outcome = told None; used = 0; seq = 0 }
 
 abbrev pub words : List ℕ → List ℕ → List ℕ → List ℕ → List ℕ → List ℕ → List ℕ → List ℕ → List ℕ → Lent
 words s f c o r q a z u =

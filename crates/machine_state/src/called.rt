@@ -1,11 +1,17 @@
-// What a call leaves of the numbers and of the fuel, and answers.
+// What a function leaves of the machine's numbers, and answers.
 use memory_world::machine::Machine;
-use model::call::Answer;
 use model::machine::Fuel;
 
 #[derive(Clone, Copy)]
-pub struct Called {
+pub struct Did<A> {
+    pub machine: Machine,
+    pub answer: A,
+}
+
+// .. and what it leaves of the fuel.
+#[derive(Clone, Copy)]
+pub struct Called<A> {
     pub machine: Machine,
     pub fuel: Fuel,
-    pub answer: Answer,
+    pub answer: A,
 }

@@ -7,17 +7,10 @@ ghost use Rattle.machine_state.specs.Frame.{DepthFits, StepFits, PushFits, overf
 ghost use Rattle.memory_world.specs.Lendings.{frame, top, top_setup};
 ghost use Rattle.memory_world.specs.Contract.{Leaves, Met, any, every, if_sound, only, of_mut, of_ref};
 
+use crate::called::Did;
 use heap::fault::Fault;
 use memory_world::machine::{Machine, Sizes};
-use model::coro::WordOr;
 use model::machine::Cont;
-
-// What a push leaves of the numbers, and answers.
-#[derive(Clone, Copy)]
-pub struct FrameDid {
-    pub machine: Machine,
-    pub answer: WordOr,
-}
 
 // The pc of the top frame.
 pub fn store_pc(frames: &mut [u64], m: Machine, pc: u64)
@@ -80,22 +73,22 @@ pub fn push_frame(
     f: u64,
     closure: u64,
     cont: Cont,
-) -> FrameDid
+) -> Did<Result<u64, Fault>>
     requires { PushFits sizes stack.now frames.old setup.now m f }
     ensures { Met if_sound sizes (push_frame f closure cont) (top_setup (of_ref stack) (of_mut frames) (of_ref setup)) (only m) (only result.machine) result.answer }
 {
     let n = memory_tables::program::regs_at(setup, f as usize);
     if overflows(m, sizes, n) {
-        return FrameDid {
+        return Did {
             machine: m,
-            answer: WordOr::Refused(Fault::StackOverflow),
+            answer: Err(Fault::StackOverflow),
         };
     }
     let base = m.height as u64;
     memory_tables::frames::push_frame(frames, m.depth, f, base, closure, cont);
-    FrameDid {
+    Did {
         machine: grown(m, n),
-        answer: WordOr::Word(base),
+        answer: Ok(base),
     }
 }
 
@@ -110,15 +103,15 @@ pub fn push_at(
     f: u64,
     closure: u64,
     cont: Cont,
-) -> FrameDid
+) -> Did<Result<u64, Fault>>
     requires { CallFits sizes stack.now frames.old setup.now m pc f }
     ensures { Met if_sound sizes (push_at pc f closure cont) (top_setup (of_ref stack) (of_mut frames) (of_ref setup)) (only m) (only result.machine) result.answer }
 {
     let n = memory_tables::program::regs_at(setup, f as usize);
     if overflows(m, sizes, n) {
-        return FrameDid {
+        return Did {
             machine: m,
-            answer: WordOr::Refused(Fault::StackOverflow),
+            answer: Err(Fault::StackOverflow),
         };
     }
     store_pc(frames, m, pc);

@@ -4,7 +4,6 @@ ghost use Rattle.model.specs.Fuel.{unbank_at, arm_at, set_finalizing};
 ghost use Rattle.memory_world.specs.Lendings.{none};
 ghost use Rattle.memory_world.specs.Contract.{Leaves, any, every, with};
 
-use heap::value::Opt;
 use memory_world::machine::Machine;
 use model::machine::Fuel;
 
@@ -21,10 +20,10 @@ pub fn unbank(f: Fuel) -> Fuel
 {
     let bank = f.bank;
     match bank {
-        Opt::None => f,
-        Opt::Some(n) => Fuel {
+        None => f,
+        Some(n) => Fuel {
             fuel: n,
-            bank: Opt::None,
+            bank: None,
             ready: f.ready,
         },
     }
@@ -36,18 +35,18 @@ pub fn arm_close(f: Fuel) -> Fuel
 {
     let bank = f.bank;
     match bank {
-        Opt::None => {
+        None => {
             if f.ready {
                 Fuel {
                     fuel: 0,
-                    bank: Opt::Some(f.fuel),
+                    bank: Some(f.fuel),
                     ready: f.ready,
                 }
             } else {
                 f
             }
         }
-        Opt::Some(_) => f,
+        Some(_) => f,
     }
 }
 

@@ -9,5 +9,4 @@ pub mod numbers;
 pub mod object;
 pub mod send;
 pub mod setup;
-pub mod step;
 pub mod way;

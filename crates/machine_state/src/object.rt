@@ -5,31 +5,31 @@ ghost use Rattle.machine_state.specs.Object.{Allocates};
 ghost use Rattle.memory_world.specs.Lendings.{table};
 ghost use Rattle.memory_world.specs.Contract.{only, of_mut};
 
+use crate::called::Did;
 use crate::numbers::{allocated, heap_of};
+use heap::fault::Fault;
 use heap::object::Object;
 use memory_world::machine::{Machine, Sizes};
-use model::coro::WordOr;
-
-// What an allocation leaves of the numbers, and answers.
-#[derive(Clone, Copy)]
-pub struct WordDid {
-    pub machine: Machine,
-    pub answer: WordOr,
-}
 
 // heap.rs: alloc.
-pub fn alloc_plain(slots: &mut [u64], m: Machine, sizes: Sizes, bytes: u64, o: Object) -> WordDid
+pub fn alloc_plain(
+    slots: &mut [u64],
+    m: Machine,
+    sizes: Sizes,
+    bytes: u64,
+    o: Object,
+) -> Did<Result<u64, Fault>>
     requires { Room slots.old (heap_of m sizes) }
     ensures { Allocates sizes bytes o (table (of_mut slots)) (only m) (only result.machine) result.answer }
 {
     match heap::heap::alloc(slots, heap_of(m, sizes), bytes, o) {
-        heap::heap::Made::Refused(g) => WordDid {
+        Err(g) => Did {
             machine: m,
-            answer: WordOr::Refused(g),
+            answer: Err(g),
         },
-        heap::heap::Made::Done(v, h) => WordDid {
+        Ok((v, h)) => Did {
             machine: allocated(m, h),
-            answer: WordOr::Word(v.0),
+            answer: Ok(v.0),
         },
     }
 }

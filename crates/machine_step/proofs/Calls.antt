@@ -12,7 +12,7 @@ use Rattle.model.specs.Calls.{Row, Instruction, OnFrame, OnHost, Unwinds, Grants
 use Rattle.model.specs.Step.{doing, call}
 use Rattle.model.specs.declared.call.Op.{Op}
 use Rattle.model.specs.declared.call.Answer.{Answer}
-use Rattle.model.specs.declared.coro.WordOr.{WordOr}
+use Rattle.std.specs.Prelude.{Result, Err}
 use Rattle.model.specs.declared.machine.Fuel.{Fuel}
 use Rattle.memory_world.specs.Memory.{Lent, Beside, Rep, Room}
 use Rattle.memory_world.specs.Contract.{Numbers, Ok, Does}
@@ -50,14 +50,14 @@ module _ {l : Sizes} {M : Lent} {m : Machine} {f : Fuel} {a : Answer} where
   as-frame w o operands body e d = by_row w o (OnFrame operands body) e d
 
   -- an answer that is the word made
-  pub made_of : {o : After WordOr} {b : WordOr} → Does l o M m f b → ((z : World) → a ≡ (answer_made z b).answer) → Does l (and_then o answer_made) M m f a
+  pub made_of : {o : After (Result ℕ Fault)} {b : Result ℕ Fault} → Does l o M m f b → ((z : World) → a ≡ (answer_made z b).answer) → Does l (and_then o answer_made) M m f a
   made_of {o} {b} d q =
       does l M m f (and_then o answer_made) o.world a
       (made o.world o.answer ∙ ap (λ y. after o.world (made_as y)) (sym d.answer) ∙ ap (after o.world) (sym (q o.world ∙ made-any o.world b))) d.world
     where
-      made : (u : World) (y : WordOr) → answer_made u y ≡ after u (made_as y)
-      made u (WordOr.Word k) = refl
-      made u (WordOr.Refused k) = refl
+      made : (u : World) (y : Result ℕ Fault) → answer_made u y ≡ after u (made_as y)
+      made u (Result.Ok k) = refl
+      made u (Err k) = refl
 
 -- an instruction
 pub as-instruction : (l : Sizes) (M : Lent) (m : Machine) (f : Fuel) (w : World) (o : Op) (a : Answer) → is_instruction (table o) ≡ true

@@ -9,7 +9,7 @@ use Rattle.heap.specs.Fault.{word_of}
 use Rattle.heap.specs.declared.fault.Fault.{Fault}
 use Rattle.model.specs.Call.{is_word, opt_pc, typed}
 use Rattle.model.specs.Calls.{table}
-use Rattle.model.specs.declared.call.OptPc.{OptPc}
+use Rattle.std.specs.Prelude.{Option}
 use Rattle.model.specs.declared.call.Op.{Op}
 use Rattle.model.specs.contracts.call.Op as Op'
 use Rattle.claims_sound.proofs.Tests.{and_right}
@@ -48,6 +48,6 @@ are-instructions (Op.Grant a) h = absurd (miss instructions 24 tt h)
 are-instructions Op.StopRun h = absurd (miss instructions 25 tt h)
 are-instructions Op.Look h = absurd (miss instructions 26 tt h)
 
-pub unwind-narrow : (o : Op) (f : Fault) (pc : OptPc) → o ≡ Op.Unwind f pc → typed o ≡ true → opt_pc pc ≡ true
+pub unwind-narrow : (o : Op) (f : Fault) (pc : Option ℕ) → o ≡ Op.Unwind f pc → typed o ≡ true → opt_pc pc ≡ true
 unfolding typed
 unwind-narrow o f pc e t = and_right (is_word (word_of f)) (opt_pc pc) (subst (λ z. typed z ≡ true) e t)

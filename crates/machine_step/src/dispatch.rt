@@ -32,7 +32,7 @@ pub(crate) fn dispatch(
     sizes: Sizes,
     fuel: Fuel,
     op: Op,
-) -> Called
+) -> Called<Answer>
     requires { DispatchFits sizes (all stack.old frames.old chain.old slots.old saved_stack.old saved_frames.old ready.old finalize.old setup.now plain) m fuel op }
     ensures { Met if_sound sizes (did op) (all (of_mut stack) (of_mut frames) (of_mut chain) (of_mut slots) (of_mut saved_stack) (of_mut saved_frames) (of_mut ready) (of_mut finalize) (of_ref setup)) (with m fuel) (with result.machine result.fuel) result.answer }
 {

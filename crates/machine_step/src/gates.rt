@@ -6,7 +6,7 @@ ghost use Rattle.memory_world.specs.Contract.{Met, Ok, if_sound, only, of_mut, o
 
 use exec_instruction::operands::passes;
 use heap::fault::Fault;
-use machine_added::call::CallDid;
+use machine_state::called::Did;
 use memory_tables::layout;
 use memory_world::machine::{Machine, Sizes};
 use model::call::{Answer, Op};
@@ -20,18 +20,18 @@ pub(crate) fn host_call(
     m: Machine,
     sizes: Sizes,
     f: u32,
-) -> CallDid
+) -> Did<Answer>
     requires { Ok sizes (top_setup stack.now frames.old setup.now plain) (only m) }
     ensures { Met if_sound sizes (did (HostCall f)) (top_setup (of_ref stack) (of_mut frames) (of_ref setup)) (only m) (only result.machine) result.answer }
 {
     if m.depth != 0 {
-        return CallDid {
+        return Did {
             machine: m,
             answer: Answer::Refused(Fault::Busy),
         };
     }
     if !memory_tables::program::is_function(setup, f as u64) {
-        return CallDid {
+        return Did {
             machine: m,
             answer: Answer::Refused(Fault::BadOperand),
         };
@@ -51,12 +51,12 @@ pub(crate) fn host_entry(
     sizes: Sizes,
     c: u64,
     v: u64,
-) -> CallDid
+) -> Did<Answer>
     requires { Ok sizes (six stack.old frames.old chain.old slots.old saved_stack.old saved_frames.old plain) (only m) }
     ensures { Met if_sound sizes (did (HostEntry c v)) (six (of_mut stack) (of_mut frames) (of_mut chain) (of_mut slots) (of_mut saved_stack) (of_mut saved_frames)) (only m) (only result.machine) result.answer }
 {
     if m.depth != 0 {
-        return CallDid {
+        return Did {
             machine: m,
             answer: Answer::Refused(Fault::Busy),
         };
@@ -85,12 +85,12 @@ pub(crate) fn function_call(
     pc: u32,
     f: u32,
     cont: Cont,
-) -> CallDid
+) -> Did<Answer>
     requires { Ok sizes (top_setup stack.now frames.old setup.now plain) (only m) }
     ensures { Met if_sound sizes (did (FunctionCall pc f cont)) (top_setup (of_ref stack) (of_mut frames) (of_ref setup)) (only m) (only result.machine) result.answer }
 {
     if m.depth == 0 {
-        return CallDid {
+        return Did {
             machine: m,
             answer: Answer::Refused(Fault::NoFrame),
         };
@@ -98,7 +98,7 @@ pub(crate) fn function_call(
     let base = memory_tables::frame::base_at(frames, m.depth - 1);
     let op = Op::FunctionCall { pc, func: f, cont };
     if !passes(setup[layout::FUNCTIONS], base as u64, m.height as u64, op) {
-        return CallDid {
+        return Did {
             machine: m,
             answer: Answer::Refused(Fault::BadOperand),
         };

@@ -7,7 +7,7 @@ use crate::dispatch::dispatch;
 use crate::widths::widths;
 use machine_state::called::Called;
 use memory_world::machine::{Machine, Sizes};
-use model::call::Op;
+use model::call::{Answer, Op};
 use model::machine::Fuel;
 
 pub fn kept(
@@ -24,7 +24,7 @@ pub fn kept(
     sizes: Sizes,
     fuel: Fuel,
     op: Op,
-) -> Called
+) -> Called<Answer>
     requires { Ok sizes (all stack.old frames.old chain.old slots.old saved_stack.old saved_frames.old ready.old finalize.old setup.now plain) (with m fuel) }
     ensures { Keeps sizes op (all (of_mut stack) (of_mut frames) (of_mut chain) (of_mut slots) (of_mut saved_stack) (of_mut saved_frames) (of_mut ready) (of_mut finalize) (of_ref setup)) (with m fuel) (with result.machine result.fuel) result.answer }
 {

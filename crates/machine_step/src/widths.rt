@@ -2,14 +2,14 @@
 ghost use Rattle.std.specs.Prelude.{◌≡◌, true};
 ghost use Rattle.model.specs.Call.{typed, opt_pc};
 
-use model::call::{Op, OptPc};
+use model::call::Op;
 
-fn opt_pc(pc: OptPc)
+fn opt_pc(pc: Option<u32>)
     ensures { opt_pc pc ≡ true }
 {
     match pc {
-        OptPc::None => {}
-        OptPc::Some(n) => {}
+        None => {}
+        Some(n) => {}
     }
 }
 

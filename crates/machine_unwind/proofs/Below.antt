@@ -18,14 +18,13 @@ use Rattle.model.specs.Cleanup.{charge}
 use Rattle.model.specs.Machine.{caught, stop_or, escape, search_as, handler_of, search}
 use Rattle.model.specs.Sound.{sound}
 use Rattle.model.specs.declared.call.Answer.{Answer}
-use Rattle.model.specs.declared.call.OptPc.{OptPc}
+use Rattle.std.specs.Prelude.{Option, Some, None}
 use Rattle.model.specs.declared.machine.Active.{Active}
 use Rattle.model.specs.declared.machine.Charge.{Charge}
 use Rattle.model.specs.declared.machine.Cont.{Cont}
 use Rattle.model.specs.declared.machine.Driver.{Driver}
 use Rattle.model.specs.declared.machine.Frame.{Frame}
 use Rattle.model.specs.declared.machine.Stop.{Stop}
-use Rattle.model.specs.declared.program.Caught.{Caught}
 use Rattle.model.specs.declared.program.Handler.{Handler}
 use Rattle.claims_sound.proofs.Tests.{no_false, no_true, picked}
 use Rattle.claims_sound.proofs.Sound.{→sound}
@@ -78,7 +77,7 @@ module _ (value fn pc : ℕ) where
   taken-ends h u (Charge.Close n) = refl
 
   module _ (w : World) (snd : sound w ≡ true) (x : Frame) (xs : List Frame) (are : w.frames ≡ x ∷ xs) where
-    abbrev found : Caught
+    abbrev found : Option Handler
     found = handler_of x w
 
     abbrev next : World → After Answer
@@ -127,6 +126,6 @@ module _ (value fn pc : ℕ) where
     pub turn-steps : fn < 2 ^ 32 → pc < 2 ^ 32 → Steps w (turn value fn pc w)
     turn-steps a b = subst (Steps w) (sym turn_is) (go found search_is)
       where
-        go : (c : Caught) → search_from value fn pc w ≡ search_as c x xs value fn pc next w → Steps w (search_as c x xs value fn pc on w)
-        go Caught.Nothing q = leaves (lt-ltb fn (2 ^ 32) a) (lt-ltb pc (2 ^ 32) b) x.cont refl q
-        go (Caught.By h) q = let p = charge OptPc.None w in record { on = λ z. no_true (sym z ∙ taken-ends h p.world p.answer); ends = λ _. q }
+        go : (c : Option Handler) → search_from value fn pc w ≡ search_as c x xs value fn pc next w → Steps w (search_as c x xs value fn pc on w)
+        go None q = leaves (lt-ltb fn (2 ^ 32) a) (lt-ltb pc (2 ^ 32) b) x.cont refl q
+        go (Some h) q = let p = charge None w in record { on = λ z. no_true (sym z ∙ taken-ends h p.world p.answer); ends = λ _. q }

@@ -12,7 +12,7 @@ use Rattle.model.specs.World.{World}
 use Rattle.model.specs.Sound.{lies_under, sound}
 use Rattle.model.specs.declared.machine.Frame.{Frame}
 use Rattle.model.specs.declared.machine.Fuel.{Fuel}
-use Rattle.model.specs.declared.program.Caught.{Caught}
+use Rattle.std.specs.Prelude.{Option, Some}
 use Rattle.model.specs.declared.program.Handler.{Handler}
 use Rattle.claims_sound.proofs.Tests.{and_left, and_right, each_at}
 use Rattle.claims_sound.proofs.Sound.{facts}
@@ -50,7 +50,7 @@ module _ (l : Sizes) (M : Lent) (m : Machine) (f : Fuel) (w : World) (rep : Rep 
   abbrev i : ℕ
   i = func_in M.frames (m.depth - 1)
 
-  pub handler-read : HandlerFits M.frames M.setup m.depth → (c : Caught) → c ≡ first_of (pc_in M.frames (m.depth - 1)) (func_of (function_in M.setup i)).handlers → c ≡ handler_in w
+  pub handler-read : HandlerFits M.frames M.setup m.depth → (c : Option Handler) → c ≡ first_of (pc_in M.frames (m.depth - 1)) (func_of (function_in M.setup i)).handlers → c ≡ handler_in w
   handler-read h c e =
       let t = some-top w.frames M.frames m.depth rep.frames h.some in
       let few = h.few in
@@ -89,9 +89,9 @@ module _ (l : Sizes) (M : Lent) (m : Machine) (f : Fuel) (w : World) (rep : Rep 
       record { some = some; within = rep.frames.within; function = function; there = omega arith; few = omega arith }
 
   -- the register of a handler that is found
-  pub catch-fits : (h : Handler) → Caught.By h ≡ handler_in w → RegFits M.stack M.frames m.height m.depth h.catch
+  pub catch-fits : (h : Handler) → Some h ≡ handler_in w → RegFits M.stack M.frames m.height m.depth h.catch
   catch-fits h e =
       let x = top.top in
-      let q : first_of x.pc (func s x.func).handlers ≡ Caught.By h = sym (e ∙ ap (λ fs. handler_on fs w) top.are) in
+      let q : first_of x.pc (func s x.func).handlers ≡ Some h = sym (e ∙ ap (λ fs. handler_on fs w) top.are) in
       let lies = first-in (λ g. ltb (x.base + g.catch) (length w.stack)) x.pc (func s x.func).handlers h (top-fits w snd x top.rest top.are).catch q in
       reg_in l M m f w rep s (names_in w snd) h.catch (subst (λ fs. lies_under h.catch (length w.stack) fs ≡ true) (sym top.are) lies)

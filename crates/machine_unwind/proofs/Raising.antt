@@ -19,8 +19,7 @@ use Rattle.model.specs.Call.{opt_pc}
 use Rattle.model.specs.Machine.{search, search_frames, search_made, error_of, unwind_fault, store_some, raisable, unwind}
 use Rattle.model.specs.Sound.{sound}
 use Rattle.model.specs.declared.call.Answer.{Answer}
-use Rattle.model.specs.declared.call.OptPc.{OptPc}
-use Rattle.model.specs.declared.coro.WordOr.{WordOr}
+use Rattle.std.specs.Prelude.{Option, Result, Some, None, Err}
 use Rattle.model.specs.declared.machine.Frame.{Frame}
 use Rattle.model.specs.declared.machine.Fuel.{Fuel}
 use Rattle.claims_sound.proofs.Tests.{no_true, and_left, both, or_else, picked}
@@ -63,7 +62,7 @@ module _ (f : Fault) (n : ℕ) (is : n ≡ number_of f) where
 
 -- ---- where
 
-none-there : (l : Sizes) (M : Lent) (m : Machine) (fuel : Fuel) (w : World) → Rep l w M m fuel → (pc : ℕ) → w.frames ≡ [] → Rep l (store_some (OptPc.Some pc) w) M m fuel
+none-there : (l : Sizes) (M : Lent) (m : Machine) (fuel : Fuel) (w : World) → Rep l w M m fuel → (pc : ℕ) → w.frames ≡ [] → Rep l (store_some (Some pc) w) M m fuel
 none-there l M m fuel w rep pc e = subst (λ fs. Rep l (with_frames fs w) M m fuel) (go w.frames e) rep
   where
     go : (fs : List Frame) → fs ≡ [] → fs ≡ on_top (set_pc pc) fs
@@ -84,30 +83,30 @@ module _ (l : Sizes) (M : Lent) (m : Machine) (fuel : Fuel) (w : World) (rep : R
       (λ i. record { func = a i; pc = b i }) ∙ sym (ap (λ fs. record { func = top_func fs; pc = top_pc fs }) t.are)
 
   -- a pc that is given, without a frame
-  pub none-stored : m.depth ≡ 0 → (pc : OptPc) → Rep l (store_some pc w) M m fuel
-  none-stored e OptPc.None = rep
-  none-stored e (OptPc.Some pc) = none-there l M m fuel w rep pc (no_top w.frames M.frames m.depth rep.frames e)
+  pub none-stored : m.depth ≡ 0 → (pc : Option ℕ) → Rep l (store_some pc w) M m fuel
+  none-stored e None = rep
+  none-stored e (Some pc) = none-there l M m fuel w rep pc (no_top w.frames M.frames m.depth rep.frames e)
 
 -- ---- what
 
 module _ (l : Sizes) (M : Lent) (m : Machine) (fuel : Fuel) (w : World) (f : Fault) (at : Origin) (there : at ≡ origin_of w) (n : ℕ) (is : n ≡ number_of f) where
   by_number : (b c : Bool) → eqb n 17 ≡ b → leb n 8 ≡ c
-      → thrown f w ≡ pick b (after w (WordOr.Word (word_of f))) (pick c (alloc w.setup.costs.error (error_of f w) w) (after w (WordOr.Refused f)))
+      → thrown f w ≡ pick b (after w (Result.Ok (word_of f))) (pick c (alloc w.setup.costs.error (error_of f w) w) (after w (Err f)))
   unfolding thrown
-  by_number b c p q = ap₂ (λ x y. pick x (after w (WordOr.Word (word_of f))) (pick y (alloc w.setup.costs.error (error_of f w) w) (after w (WordOr.Refused f)))) (ap (λ k. eqb k 17) (sym is) ∙ p) (ap (λ k. leb k 8) (sym is) ∙ q)
+  by_number b c p q = ap₂ (λ x y. pick x (after w (Result.Ok (word_of f))) (pick y (alloc w.setup.costs.error (error_of f w) w) (after w (Err f)))) (ap (λ k. eqb k 17) (sym is) ∙ p) (ap (λ k. leb k 8) (sym is) ∙ q)
 
-  pub thrown-word : n ≡ 17 → (v : ℕ) → v ≡ word_of f → Rep l w M m fuel → Does l (thrown f w) M m fuel (WordOr.Word v)
-  thrown-word e v q rep = does l M m fuel (thrown f w) w (WordOr.Word v) (by_number true (leb n 8) (eq-eqb n 17 e) refl ∙ pick_true _ _ ∙ ap (λ x. after w (WordOr.Word x)) (sym q)) rep
+  pub thrown-word : n ≡ 17 → (v : ℕ) → v ≡ word_of f → Rep l w M m fuel → Does l (thrown f w) M m fuel (Result.Ok v)
+  thrown-word e v q rep = does l M m fuel (thrown f w) w (Result.Ok v) (by_number true (leb n 8) (eq-eqb n 17 e) refl ∙ pick_true _ _ ∙ ap (λ x. after w (Result.Ok x)) (sym q)) rep
 
   error-there : Object.Error n at.func at.pc nil ≡ error_of f w
   error-there = ap₂ (λ k (x : Origin). Object.Error k x.func x.pc nil) is there
 
-  pub thrown-object : (n ≡ 17 → ⊥) → n ≤ 8 → (bytes : ℕ) (a : WordOr) → bytes ≡ w.setup.costs.error → Does l (alloc bytes (Object.Error n at.func at.pc nil) w) M m fuel a → Does l (thrown f w) M m fuel a
+  pub thrown-object : (n ≡ 17 → ⊥) → n ≤ 8 → (bytes : ℕ) (a : Result ℕ Fault) → bytes ≡ w.setup.costs.error → Does l (alloc bytes (Object.Error n at.func at.pc nil) w) M m fuel a → Does l (thrown f w) M m fuel a
   thrown-object e h bytes a q d =
       subst (λ o. Does l o M m fuel a) (ap₂ (λ x y. alloc x y w) q error-there ∙ sym (by_number false true (ne_eqb n 17 e) (le-leb n 8 h) ∙ pick-false _ _ ∙ pick_true _ _)) d
 
-  pub thrown-passes : (n ≡ 17 → ⊥) → 8 < n → Rep l w M m fuel → Does l (thrown f w) M m fuel (WordOr.Refused f)
-  thrown-passes e h rep = does l M m fuel (thrown f w) w (WordOr.Refused f) (by_number false false (ne_eqb n 17 e) (lt-leb n 8 h) ∙ pick-false _ _ ∙ pick-false _ _) rep
+  pub thrown-passes : (n ≡ 17 → ⊥) → 8 < n → Rep l w M m fuel → Does l (thrown f w) M m fuel (Err f)
+  thrown-passes e h rep = does l M m fuel (thrown f w) w (Err f) (by_number false false (ne_eqb n 17 e) (lt-leb n 8 h) ∙ pick-false _ _ ∙ pick-false _ _) rep
 
 -- an error object leaves a sound world, with the same frames
 pub record Raised (w u : World) : Type 0 where
@@ -117,9 +116,9 @@ pub record Raised (w u : World) : Type 0 where
 pub thrown-good : (f : Fault) (w : World) → sound w ≡ true → raisable f ≡ true → Raised w (thrown f w).world
 unfolding thrown
 thrown-good f w snd range =
-    picked (λ (o : After WordOr). Raised w o.world) (eqb (number_of f) 17) (λ _. same)
+    picked (λ (o : After (Result ℕ Fault)). Raised w o.world) (eqb (number_of f) 17) (λ _. same)
     (λ other.
-    picked (λ (o : After WordOr). Raised w o.world) (leb (number_of f) 8)
+    picked (λ (o : After (Result ℕ Fault)). Raised w o.world) (leb (number_of f) 8)
     (λ small.
     let from : between 1 8 (number_of f) ≡ true = both (or_else (between 1 10 (number_of f)) (eqb (number_of f) 17) range (λ z. and_left (leb 1 (number_of f)) (leb (number_of f) 10) z) (λ z. no_true (sym z ∙ other))) small in
     let made = error-good f w (known w snd) from in
@@ -148,22 +147,22 @@ module _ (f : Fault) (w : World) where
   unfolding thrown pick
   raise-is = go (eqb (number_of f) 17) (leb (number_of f) 8)
     where
-      a : After WordOr
+      a : After (Result ℕ Fault)
       a = alloc w.setup.costs.error (error_of f w) w
 
-      go : (b c : Bool) → pick b (search_frames (word_of f) w) (pick c (and_then a search_made) (after w (Answer.Refused f))) ≡ and_then (pick b (after w (WordOr.Word (word_of f))) (pick c a (after w (WordOr.Refused f)))) search_made
+      go : (b c : Bool) → pick b (search_frames (word_of f) w) (pick c (and_then a search_made) (after w (Answer.Refused f))) ≡ and_then (pick b (after w (Result.Ok (word_of f))) (pick c a (after w (Err f)))) search_made
       go true c = refl
       go false true = refl
       go false false = refl
 
   module _ (l : Sizes) (M : Lent) (m : Machine) (fuel : Fuel) where
-    abbrev what : After WordOr
+    abbrev what : After (Result ℕ Fault)
     what = thrown f w
 
-    pub raise-refused : (g : Fault) (a : WordOr) → a ≡ WordOr.Refused g → Does l what M m fuel a → Does l (unwind_fault f w) M m fuel (Answer.Refused g)
+    pub raise-refused : (g : Fault) (a : Result ℕ Fault) → a ≡ Err g → Does l what M m fuel a → Does l (unwind_fault f w) M m fuel (Answer.Refused g)
     raise-refused g a e d = does l M m fuel (unwind_fault f w) what.world (Answer.Refused g) (raise-is ∙ ap (search_made what.world) (sym d.answer ∙ e)) d.world
 
-    pub raise-searched : (v : ℕ) (a : WordOr) (at : Origin) → a ≡ WordOr.Word v → a ≡ what.answer → at ≡ origin_of w → what.world.frames ≡ w.frames → (x : Answer)
+    pub raise-searched : (v : ℕ) (a : Result ℕ Fault) (at : Origin) → a ≡ Result.Ok v → a ≡ what.answer → at ≡ origin_of w → what.world.frames ≡ w.frames → (x : Answer)
         → Does l (search_from v at.func at.pc what.world) M m fuel x → Does l (unwind_fault f w) M m fuel x
     unfolding search_from
     raise-searched v a at e q is same x d =
@@ -171,14 +170,14 @@ module _ (f : Fault) (w : World) where
         subst (λ o. Does l o M m fuel x)
         (ap (λ (y : Origin). search u.frames v y.func y.pc u) is ∙ ap (λ fs. search u.frames v (top_func fs) (top_pc fs) u) (sym same) ∙ sym (raise-is ∙ ap (search_made u) (sym q ∙ e))) d
 
-pub some-sounds : (pc : OptPc) (w : World) → opt_pc pc ≡ true → sound w ≡ true → sound (store_some pc w) ≡ true
+pub some-sounds : (pc : Option ℕ) (w : World) → opt_pc pc ≡ true → sound w ≡ true → sound (store_some pc w) ≡ true
 some-sounds pc w e snd = →sound (store_some pc w) (some-sound pc w e (known w snd))
 
-pub some-setup : (pc : OptPc) (w : World) → (store_some pc w).setup ≡ w.setup
-some-setup OptPc.None w = refl
-some-setup (OptPc.Some pc) w = refl
+pub some-setup : (pc : Option ℕ) (w : World) → (store_some pc w).setup ≡ w.setup
+some-setup None w = refl
+some-setup (Some pc) w = refl
 
-module _ (l : Sizes) (M : Lent) (m : Machine) (fuel : Fuel) (w : World) (f : Fault) (pc : OptPc) where
+module _ (l : Sizes) (M : Lent) (m : Machine) (fuel : Fuel) (w : World) (f : Fault) (pc : Option ℕ) where
   pub unwind-refused : raisable f ≡ false → Rep l w M m fuel → Does l (unwind f pc w) M m fuel (Answer.Refused Fault.Unsound)
   unfolding unwind
   unwind-refused e rep = does l M m fuel _ w (Answer.Refused Fault.Unsound) (ap (λ b. pick b (unwind_fault f (store_some pc w)) (after w (Answer.Refused Fault.Unsound))) e ∙ pick-false _ _) rep

@@ -11,12 +11,11 @@ use Rattle.model.specs.Coro.{coro_escaped}
 use Rattle.model.specs.Cleanup.{charge}
 use Rattle.model.specs.Machine.{caught, stop_or, escape, take_handler, search_as}
 use Rattle.model.specs.declared.call.Answer.{Answer}
-use Rattle.model.specs.declared.call.OptPc.{OptPc}
+use Rattle.std.specs.Prelude.{Some, None}
 use Rattle.model.specs.declared.machine.Charge.{Charge}
 use Rattle.model.specs.declared.machine.Cont.{Cont}
 use Rattle.model.specs.declared.machine.Frame.{Frame}
 use Rattle.model.specs.declared.machine.Fuel.{Fuel}
-use Rattle.model.specs.declared.program.Caught.{Caught}
 use Rattle.model.specs.declared.program.Handler.{Handler}
 use Rattle.claims_sound.proofs.Tests.{no_false, no_true}
 use Rattle.memory_world.specs.Memory.{Lent, Rep}
@@ -51,7 +50,7 @@ paid-caught h value u (Charge.Close n) e = refl
 
 module _ (l : Sizes) (M : Lent) (m : Machine) (f : Fuel) (w : World) (h : Handler) (value : ℕ) (c : Charge) where
   abbrev paid : After Charge
-  paid = charge OptPc.None w
+  paid = charge None w
 
   by-charge : c ≡ paid.answer → take_handler h value w ≡ caught h value paid.world c
   by-charge e = ap (caught h value paid.world) (sym e)
@@ -101,18 +100,18 @@ module _ (value fn pc : ℕ) where
 -- ---- a turn
 
 module _ (l : Sizes) (M : Lent) (m : Machine) (f : Fuel) (w : World) (value fn pc : ℕ) (t : Answer) where
-  pub turn-takes : (h : Handler) → Caught.By h ≡ handler_in w → Does l (take_handler h value w) M m f t → Does l (turn value fn pc w) M m f t
+  pub turn-takes : (h : Handler) → Some h ≡ handler_in w → Does l (take_handler h value w) M m f t → Does l (turn value fn pc w) M m f t
   unfolding turn
   turn-takes h e d = subst (λ o. Does l o M m f t) (go w.frames e) d
     where
-      go : (fs : List Frame) → Caught.By h ≡ handler_on fs w → take_handler h value w ≡ turn_on fs value fn pc w
+      go : (fs : List Frame) → Some h ≡ handler_on fs w → take_handler h value w ≡ turn_on fs value fn pc w
       go [] q = never cc
       go (x ∷ xs) q = ap (λ c. search_as c x xs value fn pc on w) q
 
-  pub turn-leaves : Caught.Nothing ≡ handler_in w → Does l (leave value fn pc w) M m f t → Does l (turn value fn pc w) M m f t
+  pub turn-leaves : None ≡ handler_in w → Does l (leave value fn pc w) M m f t → Does l (turn value fn pc w) M m f t
   unfolding turn leave
   turn-leaves e d = subst (λ o. Does l o M m f t) (go w.frames e) d
     where
-      go : (fs : List Frame) → Caught.Nothing ≡ handler_on fs w → leave_on fs value fn pc w ≡ turn_on fs value fn pc w
+      go : (fs : List Frame) → None ≡ handler_on fs w → leave_on fs value fn pc w ≡ turn_on fs value fn pc w
       go [] q = refl
       go (x ∷ xs) q = ap (λ c. search_as c x xs value fn pc on w) q

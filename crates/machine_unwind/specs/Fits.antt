@@ -1,9 +1,8 @@
 -- machine.rs: unwind, what it asks of the lent words.
-use Rattle.std.specs.Prelude.{◌≡◌, true, List, ℕ, ◌+◌, ◌-◌, ◌*◌, ◌^◌, ◌≤◌, ◌<◌, length, get_or}
+use Rattle.std.specs.Prelude.{◌≡◌, true, List, ℕ, ◌+◌, ◌-◌, ◌*◌, ◌^◌, ◌≤◌, ◌<◌, length, get_or, Option}
 use Rattle.heap.specs.declared.fault.Fault.{Fault}
 use Rattle.model.specs.Call.{opt_pc}
 use Rattle.model.specs.Machine.{raisable}
-use Rattle.model.specs.declared.call.OptPc.{OptPc}
 use Rattle.model.specs.declared.machine.Fuel.{Fuel}
 use Rattle.memory_tables.specs.Layout.{func_in, function_in}
 use Rattle.memory_world.specs.Memory.{Lent, Beside, on_frames, on_setup}
@@ -40,6 +39,6 @@ pub record RaiseFits (sizes : Sizes) (M : Beside → Lent) (m : Machine) (fuel :
   pub raises : raisable fault ≡ true
 
 -- a sound world, and a pc of 32 bits if one is given
-pub record UnwindFits (sizes : Sizes) (M : Beside → Lent) (m : Machine) (fuel : Fuel) (pc : OptPc) : Type 0 where
+pub record UnwindFits (sizes : Sizes) (M : Beside → Lent) (m : Machine) (fuel : Fuel) (pc : Option ℕ) : Type 0 where
   pub ok : Ok sizes M (with m fuel)
   pub narrow : opt_pc pc ≡ true

@@ -1,16 +1,15 @@
 -- machine.rs: unwind, one frame after the other. A turn is the definition's search of the top frame alone: where that goes on to the
 -- frame below, the turn answers Resume, which no search does.
-use Rattle.std.specs.Prelude.{◌≡◌, Bool, true, false, List, [], ◌∷◌, ℕ}
+use Rattle.std.specs.Prelude.{◌≡◌, Bool, true, false, List, [], ◌∷◌, ℕ, Option, Result, None}
 use Rattle.heap.specs.declared.fault.Fault.{Fault}
 use Rattle.model.specs.World.{World, After, after}
 use Rattle.model.specs.Frames.{is_coro, top_func, top_pc, pop_to}
 use Rattle.model.specs.Machine.{stop_or, escape, search_as, handler_of, search, raised_to}
 use Rattle.model.specs.declared.call.Answer.{Answer}
-use Rattle.model.specs.declared.coro.WordOr.{WordOr}
+use Rattle.model.specs.declared.program.Handler.{Handler}
 use Rattle.model.specs.declared.machine.Charge.{Charge}
 use Rattle.model.specs.declared.machine.Cont.{Cont}
 use Rattle.model.specs.declared.machine.Frame.{Frame}
-use Rattle.model.specs.declared.program.Caught.{Caught}
 use Rattle.memory_world.specs.Contract.{Kind}
 use Rattle.machine_unwind.specs.declared.turn.Origin.{Origin}
 
@@ -38,11 +37,11 @@ goes_on (Answer.Took o) = false
 
 -- ---- the top frame
 
-abbrev pub handler_on : List Frame → World → Caught
-handler_on [] w = Caught.Nothing
+abbrev pub handler_on : List Frame → World → Option Handler
+handler_on [] w = None
 handler_on (x ∷ xs) w = handler_of x w
 
-abbrev pub handler_in : World → Caught
+abbrev pub handler_in : World → Option Handler
 handler_in w = handler_on w.frames w
 
 -- what a frame that is no body answers, and an escaped coroutine, whatever the world
@@ -81,5 +80,5 @@ origin_of w = record { func = top_func w.frames; pc = top_pc w.frames }
 abbrev pub if_at : Origin → Kind
 if_at at w X = at ≡ origin_of w → X
 
-unfoldable pub thrown : Fault → World → After WordOr
+unfoldable pub thrown : Fault → World → After (Result ℕ Fault)
 thrown f w = raised_to after f w

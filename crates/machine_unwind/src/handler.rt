@@ -14,10 +14,10 @@ use machine_state::frame::{put, store_pc};
 use memory_world::machine::Machine;
 use model::call::Answer;
 use model::machine::Fuel;
-use model::program::{Caught, Handler};
+use model::program::Handler;
 
 // The first handler of the top frame's function that covers its pc.
-pub(crate) fn handler_in(frames: &[u64], setup: &[u64], m: Machine) -> Caught
+pub(crate) fn handler_in(frames: &[u64], setup: &[u64], m: Machine) -> Option<Handler>
     requires { HandlerFits frames.now setup.now m.depth }
     ensures { every (λ sizes. Reads sizes handler_in (frame_setup (of_ref frames) (of_ref setup)) (only m) result) }
 {
@@ -35,7 +35,7 @@ pub(crate) fn take_handler(
     fuel: Fuel,
     h: Handler,
     value: u64,
-) -> Called
+) -> Called<Answer>
     requires { RegFits stack.old frames.old m.height m.depth h.catch }
     ensures { every (λ sizes. Met any sizes (take_handler h value) (top (of_mut stack) (of_mut frames)) (with m fuel) (with result.machine result.fuel) result.answer) }
 {

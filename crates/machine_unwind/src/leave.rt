@@ -9,6 +9,7 @@ use coro_end::escaped::coro_escaped;
 use machine_state::called::Called;
 use machine_state::frame::pop;
 use memory_world::machine::{Machine, Sizes};
+use model::call::Answer;
 use model::machine::Fuel;
 
 // The top frame goes, and a word raised at pc of function func escapes what it was.
@@ -25,7 +26,7 @@ pub(crate) fn leave(
     value: u64,
     func: u64,
     pc: u64,
-) -> Called
+) -> Called<Answer>
     requires { FrameFits sizes (six stack.old frames.old chain.old slots.old saved_stack.old saved_frames.old plain) m fuel }
     ensures { Met if_sound sizes (leave value func pc) (six (of_mut stack) (of_mut frames) (of_mut chain) (of_mut slots) (of_mut saved_stack) (of_mut saved_frames)) (with m fuel) (with result.machine result.fuel) result.answer }
 {

@@ -12,7 +12,6 @@ use machine_state::called::Called;
 use memory_world::machine::{Machine, Sizes};
 use model::call::Answer;
 use model::machine::Fuel;
-use model::program::Caught;
 
 // The top frame takes the word, or is left.
 pub(crate) fn turn(
@@ -29,13 +28,13 @@ pub(crate) fn turn(
     value: u64,
     func: u64,
     pc: u64,
-) -> Called
+) -> Called<Answer>
     requires { FrameFits sizes (six_setup stack.old frames.old chain.old slots.old saved_stack.old saved_frames.old setup.now plain) m fuel }
     ensures { Met if_sound sizes (turn value func pc) (six_setup (of_mut stack) (of_mut frames) (of_mut chain) (of_mut slots) (of_mut saved_stack) (of_mut saved_frames) (of_ref setup)) (with m fuel) (with result.machine result.fuel) result.answer }
 {
     match handler_in(frames, setup, m) {
-        Caught::By(h) => take_handler(stack, frames, m, fuel, h, value),
-        Caught::Nothing => leave(
+        Some(h) => take_handler(stack, frames, m, fuel, h, value),
+        None => leave(
             stack,
             frames,
             chain,
@@ -68,7 +67,7 @@ pub(crate) fn search(
     value: u64,
     func: u64,
     pc: u64,
-) -> Called
+) -> Called<Answer>
     requires { SearchFits sizes (six_setup stack.old frames.old chain.old slots.old saved_stack.old saved_frames.old setup.now plain) m fuel func pc }
     ensures { Met if_sound sizes (search_from value func pc) (six_setup (of_mut stack) (of_mut frames) (of_mut chain) (of_mut slots) (of_mut saved_stack) (of_mut saved_frames) (of_ref setup)) (with m fuel) (with result.machine result.fuel) result.answer }
 {

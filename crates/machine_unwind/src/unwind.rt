@@ -13,11 +13,10 @@ use crate::turn::Origin;
 use heap::fault::Fault;
 use heap::object::Object;
 use heap::value::Word;
-use machine_state::called::Called;
-use machine_state::object::{WordDid, alloc_plain};
+use machine_state::called::{Called, Did};
+use machine_state::object::alloc_plain;
 use memory_world::machine::{Machine, Sizes};
-use model::call::{Answer, OptPc};
-use model::coro::WordOr;
+use model::call::Answer;
 use model::machine::Fuel;
 
 // Function and pc of the top frame; 0 and 0 without one.
@@ -42,15 +41,15 @@ pub(crate) fn thrown(
     sizes: Sizes,
     fault: Fault,
     at: Origin,
-) -> WordDid
+) -> Did<Result<u64, Fault>>
     requires { Room slots.old (heap_of m sizes) }
     ensures { Met (if_at at) sizes (thrown fault) (table (of_mut slots)) (only m) (only result.machine) result.answer }
 {
     let kind = fault.number();
     if kind == 17 {
-        return WordDid {
+        return Did {
             machine: m,
-            answer: WordOr::Word(fault.word()),
+            answer: Ok(fault.word()),
         };
     }
     if kind <= 8 {
@@ -63,9 +62,9 @@ pub(crate) fn thrown(
         };
         return alloc_plain(slots, m, sizes, costs.error, o);
     }
-    WordDid {
+    Did {
         machine: m,
-        answer: WordOr::Refused(fault),
+        answer: Err(fault),
     }
 }
 
@@ -82,7 +81,7 @@ pub(crate) fn raise(
     sizes: Sizes,
     fuel: Fuel,
     fault: Fault,
-) -> Called
+) -> Called<Answer>
     requires { RaiseFits sizes (six_setup stack.old frames.old chain.old slots.old saved_stack.old saved_frames.old setup.now plain) m fuel fault }
     ensures { Met if_sound sizes (unwind_fault fault) (six_setup (of_mut stack) (of_mut frames) (of_mut chain) (of_mut slots) (of_mut saved_stack) (of_mut saved_frames) (of_ref setup)) (with m fuel) (with result.machine result.fuel) result.answer }
 {
@@ -91,12 +90,12 @@ pub(crate) fn raise(
     let n = did.machine;
     let made = did.answer;
     match made {
-        WordOr::Refused(f) => Called {
+        Err(f) => Called {
             machine: n,
             fuel,
             answer: Answer::Refused(f),
         },
-        WordOr::Word(v) => search(
+        Ok(v) => search(
             stack,
             frames,
             chain,
@@ -129,7 +128,7 @@ fn is_raisable(fault: Fault) -> bool
 }
 
 // A pc that is given goes to the top frame, if there is one.
-fn store_some(frames: &mut [u64], m: Machine, pc: OptPc)
+fn store_some(frames: &mut [u64], m: Machine, pc: Option<u32>)
     requires { m.depth * 6 ≤ length frames.old }
     ensures { every (λ sizes. Leaves any sizes (store_some pc) (frame (of_mut frames)) (only m) (only m)) }
 {
@@ -137,8 +136,8 @@ fn store_some(frames: &mut [u64], m: Machine, pc: OptPc)
         return;
     }
     match pc {
-        OptPc::None => {}
-        OptPc::Some(p) => machine_state::frame::store_pc(frames, m, p as u64),
+        None => {}
+        Some(p) => machine_state::frame::store_pc(frames, m, p as u64),
     }
 }
 
@@ -155,8 +154,8 @@ pub fn unwind(
     sizes: Sizes,
     fuel: Fuel,
     fault: Fault,
-    pc: OptPc,
-) -> Called
+    pc: Option<u32>,
+) -> Called<Answer>
     requires { UnwindFits sizes (six_setup stack.old frames.old chain.old slots.old saved_stack.old saved_frames.old setup.now plain) m fuel pc }
     ensures { Met if_sound sizes (unwind fault pc) (six_setup (of_mut stack) (of_mut frames) (of_mut chain) (of_mut slots) (of_mut saved_stack) (of_mut saved_frames) (of_ref setup)) (with m fuel) (with result.machine result.fuel) result.answer }
 {

@@ -15,12 +15,12 @@ use Rattle.heap.specs.declared.heap.ResultKind.{ResultKind}
 use Rattle.heap.specs.declared.heap.ResultKind.TheVariants as K
 use Rattle.heap.specs.Slot.{flag}
 use Rattle.model.specs.Call.{is_reg, are_regs, is_argc, is_pc, is_word, opt_pc, typed}
-use Rattle.model.specs.declared.call.OptPc.{OptPc}
+use Rattle.std.specs.Prelude.{Option, Result, Some, None, Ok, Err}
+use Rattle.memory_calls.specs.declared.call.Gate.{Gate}
 use Rattle.model.specs.declared.call.Op.{Op}
 use Rattle.memory_tables.proofs.Codes.{cont-back}
 use Rattle.memory_calls.specs.Codes.{as_pc, as_reg, as_argc, fault_of, kind_code, kind_of, opt_code, opt_word, opt_of, same}
 use Rattle.memory_calls.specs.Call.{op_in, op_words, gate_in, op_of}
-use Rattle.memory_calls.specs.declared.call.Read.{Read}
 
 -- ---- the same words
 
@@ -71,10 +71,10 @@ reg-back n e = mod-eq_of_lt (ltb-true n (2 ^ 16) e)
 argc-back : (n : ℕ) → is_argc n ≡ true → as_argc n ≡ n
 argc-back n e = mod-eq_of_lt (ltb-true n (2 ^ 8) e)
 
-opt-back : (p : OptPc) → opt_pc p ≡ true → opt_of (opt_code p) (opt_word p) ≡ p
+opt-back : (p : Option ℕ) → opt_pc p ≡ true → opt_of (opt_code p) (opt_word p) ≡ p
 unfolding pick
-opt-back OptPc.None e = refl
-opt-back (OptPc.Some pc) e = rw (pc-back pc e)
+opt-back None e = refl
+opt-back (Some pc) e = rw (pc-back pc e)
 
 -- a pc, then registers
 one-back : (pc r : ℕ) → (is_pc pc && is_reg r) ≡ true → (as_pc pc ≡ pc) × (as_reg r ≡ r)
@@ -137,27 +137,27 @@ op-back Op.StopRun e = refl
 op-back Op.Look e = refl
 
 -- every call is read back
-pub read_back : (o : Op) → typed o ≡ true → op_of (op_words o) ≡ Read.Is o
-read_back o e = ap (λ (x : Op). pick (same (op_words x) (op_words o)) (Read.Is x) (Read.Not (gate_in (op_words o)))) (op-back o e) ∙ rw (same-all (op_words o)) (pick_true (Read.Is o) (Read.Not (gate_in (op_words o))))
+pub read_back : (o : Op) → typed o ≡ true → op_of (op_words o) ≡ Ok o
+read_back o e = ap (λ (x : Op). pick (same (op_words x) (op_words o)) (Ok x) (Err (gate_in (op_words o)))) (op-back o e) ∙ rw (same-all (op_words o)) (pick_true (Ok o) (Err (gate_in (op_words o))))
 
 -- what is read, if anything, and whether it is a call
-abbrev got : Op → Read → Op
-got o (Read.Is x) = x
-got o (Read.Not f) = o
+abbrev got : Op → Result Op Gate → Op
+got o (Ok x) = x
+got o (Err f) = o
 
-abbrev is_call : Read → Bool
-is_call (Read.Is x) = true
-is_call (Read.Not f) = false
+abbrev is_call : Result Op Gate → Bool
+is_call (Ok x) = true
+is_call (Err f) = false
 
 -- what is read is the table's, and is written in the same words
-pub read-in : (ws : List ℕ) (o : Op) → op_of ws ≡ Read.Is o → (op_in ws ≡ o) × (op_words o ≡ ws)
+pub read-in : (ws : List ℕ) (o : Op) → op_of ws ≡ Ok o → (op_in ws ≡ o) × (op_words o ≡ ws)
 unfolding pick
 read-in ws o = go (same (op_words (op_in ws)) ws) refl
   where
-    go : (b : Bool) → same (op_words (op_in ws)) ws ≡ b → pick b (Read.Is (op_in ws)) (Read.Not (gate_in ws)) ≡ Read.Is o → (op_in ws ≡ o) × (op_words o ≡ ws)
+    go : (b : Bool) → same (op_words (op_in ws)) ws ≡ b → pick b (Ok (op_in ws)) (Err (gate_in ws)) ≡ Ok o → (op_in ws ≡ o) × (op_words o ≡ ws)
     go true t e = let h = ap (got o) e in (h, ap op_words (sym h) ∙ same-are (op_words (op_in ws)) ws t)
-    go false t e = never (ap (λ (r : Read). flag (is_call r)) e)
+    go false t e = never (ap (λ (r : Result Op Gate). flag (is_call r)) e)
 
 -- so words are those of at most one call, and a call has one form
-pub written_back : (ws : List ℕ) (o : Op) → op_of ws ≡ Read.Is o → op_words o ≡ ws
+pub written_back : (ws : List ℕ) (o : Op) → op_of ws ≡ Ok o → op_words o ≡ ws
 written_back ws o e = (read-in ws o e).1

@@ -12,30 +12,30 @@ use Rattle.model.specs.declared.call.Op.{Op}
 use Rattle.memory_calls.specs.Codes.{same}
 use Rattle.memory_calls.specs.Call.{op_by, op_in, six, op_words, gate_by, gate_in, op_of}
 use Rattle.memory_calls.specs.declared.call.Gate.{Gate}
-use Rattle.memory_calls.specs.declared.call.Read.{Read}
+use Rattle.std.specs.Prelude.{Ok, Err}
 use Rattle.memory_calls.proofs.Back.{same-are}
 
 -- what the test says of the words
 tested : (ws : List ℕ) (op : Op) (w : List ℕ) (r b : Bool) → op ≡ op_in ws → w ≡ op_words op → r ≡ same w ws → r ≡ b → same (op_words (op_in ws)) ws ≡ b
 tested ws op w r b h k e t = ap (λ (o : Op). same (op_words o) ws) (sym h) ∙ ap (λ (x : List ℕ). same x ws) (sym k) ∙ sym e ∙ t
 
-pub read_is : (ws : List ℕ) (op : Op) (w : List ℕ) (r : Bool) → op ≡ op_in ws → w ≡ op_words op → r ≡ same w ws → r ≡ true → Read.Is op ≡ op_of ws
+pub read_is : (ws : List ℕ) (op : Op) (w : List ℕ) (r : Bool) → op ≡ op_in ws → w ≡ op_words op → r ≡ same w ws → r ≡ true → Ok op ≡ op_of ws
 read_is ws op w r h k e t =
-    let x = Read.Is (op_in ws) in
-    let y = Read.Not (gate_in ws) in
-    ap Read.Is h ∙ sym (ap (λ (b : Bool). pick b x y) (tested ws op w r true h k e t) ∙ pick_true x y)
+    let x = Ok (op_in ws) in
+    let y = Err (gate_in ws) in
+    ap Ok h ∙ sym (ap (λ (b : Bool). pick b x y) (tested ws op w r true h k e t) ∙ pick_true x y)
 
-none : (ws : List ℕ) → same (op_words (op_in ws)) ws ≡ false → Read.Not (gate_in ws) ≡ op_of ws
+none : (ws : List ℕ) → same (op_words (op_in ws)) ws ≡ false → Err (gate_in ws) ≡ op_of ws
 none ws e =
-    let x = Read.Is (op_in ws) in
-    let y = Read.Not (gate_in ws) in
+    let x = Ok (op_in ws) in
+    let y = Err (gate_in ws) in
     sym (ap (λ (b : Bool). pick b x y) e ∙ pick-false x y)
 
 pub read-not : (n a b c d e : ℕ) (op : Op) (w : List ℕ) (r : Bool) (f : Gate) → op ≡ op_by n a b c d e → w ≡ op_words op → r ≡ same w (six n a b c d e) → r ≡ false → f ≡ gate_by n a
-    → Read.Not f ≡ op_of (six n a b c d e)
+    → Err f ≡ op_of (six n a b c d e)
 read-not n a b c d e op w r f h k s t g =
     let ws = six n a b c d e in
-    ap Read.Not (g ∙ sym (pick_true (gate_by n a) Gate.Operand)) ∙ none ws (tested ws op w r false h k s t)
+    ap Err (g ∙ sym (pick_true (gate_by n a) Gate.Operand)) ∙ none ws (tested ws op w r false h k s t)
 
 -- ---- as many words
 
@@ -69,12 +69,12 @@ length-op Op.StopRun = refl
 length-op Op.Look = refl
 
 -- other than six words are none
-pub other_length : (ws : List ℕ) → (length ws ≡ 6 → ⊥) → Read.Not Gate.Operand ≡ op_of ws
+pub other_length : (ws : List ℕ) → (length ws ≡ 6 → ⊥) → Err Gate.Operand ≡ op_of ws
 other_length ws h = go (same (op_words (op_in ws)) ws) refl
   where
-    go : (b : Bool) → same (op_words (op_in ws)) ws ≡ b → Read.Not Gate.Operand ≡ op_of ws
+    go : (b : Bool) → same (op_words (op_in ws)) ws ≡ b → Err Gate.Operand ≡ op_of ws
     go true e = absurd (h (ap length (sym (same-are (op_words (op_in ws)) ws e)) ∙ length-op (op_in ws)))
-    go false e = ap Read.Not (sym (rw (ne_eqb (length ws) 6 h) (pick-false (gate_by (get_or ws 0 0) (get_or ws 1 0)) Gate.Operand))) ∙ none ws e
+    go false e = ap Err (sym (rw (ne_eqb (length ws) 6 h) (pick-false (gate_by (get_or ws 0 0) (get_or ws 1 0)) Gate.Operand))) ∙ none ws e
 
 -- six are those at their places
 pub as-six : (ws : List ℕ) → length ws ≡ 6 → six (get_or ws 0 0) (get_or ws 1 0) (get_or ws 2 0) (get_or ws 3 0) (get_or ws 4 0) (get_or ws 5 0) ≡ ws

@@ -12,11 +12,10 @@ use Rattle.heap.specs.Fault.{word_of}
 use Rattle.heap.specs.declared.fault.Fault.{Fault}
 use Rattle.model.specs.Lists.{each, each_first, each-rest}
 use Rattle.model.specs.Call.{is_reg, is_argc, is_pc, is_word, opt_pc, typed}
-use Rattle.model.specs.declared.call.OptPc.{OptPc}
+use Rattle.std.specs.Prelude.{Some, None, Ok}
 use Rattle.model.specs.declared.call.Op.{Op}
 use Rattle.memory_calls.specs.Codes.{as_pc, as_reg, as_argc, faults, fault_of, opt_of}
 use Rattle.memory_calls.specs.Call.{table, op_by, op_of}
-use Rattle.memory_calls.specs.declared.call.Read.{Read}
 use Rattle.memory_calls.proofs.Back.{read-in}
 
 -- a test of each element and of the default is one of whatever stands at a place
@@ -38,7 +37,7 @@ opt-is : (n pc : ℕ) → opt_pc (opt_of n pc) ≡ true
 unfolding pick
 opt-is n pc = go (eqb n 0)
   where
-    go : (b : Bool) → opt_pc (pick b OptPc.None (OptPc.Some (as_pc pc))) ≡ true
+    go : (b : Bool) → opt_pc (pick b None (Some (as_pc pc))) ≡ true
     go true = refl
     go false = pc-is pc
 
@@ -57,7 +56,7 @@ by-is n a b c d e ha hb = each-get typed (table a b c d e) n Op.Look (table_is a
 word_at : (ws : List ℕ) (i : ℕ) → each is_word ws ≡ true → is_word (get_or ws i 0) ≡ true
 word_at ws i h = each-get is_word ws i 0 h refl
 
-pub read-typed : (ws : List ℕ) (o : Op) → each is_word ws ≡ true → op_of ws ≡ Read.Is o → typed o ≡ true
+pub read-typed : (ws : List ℕ) (o : Op) → each is_word ws ≡ true → op_of ws ≡ Ok o → typed o ≡ true
 read-typed ws o h e =
     subst (λ (x : Op). typed x ≡ true) (read-in ws o e).0
     (by-is (get_or ws 0 0) (get_or ws 1 0) (get_or ws 2 0) (get_or ws 3 0) (get_or ws 4 0) (get_or ws 5 0) (word_at ws 1 h) (word_at ws 2 h))

@@ -1,6 +1,6 @@
 -- A call in six words: its code, its operands in the order of `Op`, then 0. One table says which call a code is; words are a call if they
 -- are those that the call is written in.
-use Rattle.std.specs.Prelude.{Bool, not, ◌&&◌, ◌||◌, List, [], ◌∷◌, ℕ, length, get_or, eqb, ltb}
+use Rattle.std.specs.Prelude.{Bool, not, ◌&&◌, ◌||◌, List, [], ◌∷◌, ℕ, length, get_or, eqb, ltb, Result, Ok, Err}
 use Rattle.lists.specs.Pick.{pick}
 use Rattle.heap.specs.Fault.{number_of, word_of}
 use Rattle.heap.specs.declared.fault.Fault.{Fault}
@@ -8,7 +8,6 @@ use Rattle.model.specs.declared.call.Op.{Op}
 use Rattle.memory_tables.specs.Layout.{cont_code, cont_reg, cont_of}
 use Rattle.memory_calls.specs.Codes.{as_pc, as_reg, as_argc, fault_of, kind_code, kind_of, opt_code, opt_word, opt_of, same}
 use Rattle.memory_calls.specs.declared.call.Gate.{Gate}
-use Rattle.memory_calls.specs.declared.call.Read.{Read}
 
 -- the calls from code 0 on, of five operands
 abbrev pub table : ℕ → ℕ → ℕ → ℕ → ℕ → List Op
@@ -105,5 +104,5 @@ refusal Gate.Host none = pick none Fault.BadOperand Fault.Busy
 refusal Gate.Operand none = Fault.BadOperand
 
 -- the call that the words are, or the test that refuses them
-abbrev pub op_of : List ℕ → Read
-op_of ws = pick (same (op_words (op_in ws)) ws) (Read.Is (op_in ws)) (Read.Not (gate_in ws))
+abbrev pub op_of : List ℕ → Result Op Gate
+op_of ws = pick (same (op_words (op_in ws)) ws) (Ok (op_in ws)) (Err (gate_in ws))

@@ -1,11 +1,10 @@
 -- Faults, result kinds, a pc or none: their codes. A continuation has the codes that a frame stores (tables: Layout).
-use Rattle.std.specs.Prelude.{Bool, true, false, ◌&&◌, List, [], ◌∷◌, ℕ, ◌%◌, ◌^◌, get_or, eqb}
+use Rattle.std.specs.Prelude.{Bool, true, false, ◌&&◌, List, [], ◌∷◌, ℕ, ◌%◌, ◌^◌, get_or, eqb, Option, Some, None}
 use Rattle.lists.specs.Pick.{pick}
 use Rattle.heap.specs.declared.fault.Fault.{Fault}
 use Rattle.heap.specs.declared.fault.Fault.TheVariants as F
 use Rattle.heap.specs.declared.heap.ResultKind.{ResultKind}
 use Rattle.heap.specs.declared.heap.ResultKind.TheVariants as K
-use Rattle.model.specs.declared.call.OptPc.{OptPc}
 
 -- registers have 16 bits, argument counts 8, pc and function numbers 32
 abbrev pub as_pc : ℕ → ℕ
@@ -37,16 +36,16 @@ abbrev pub kind_of : ℕ → ResultKind
 kind_of n = get_or (K.None ∷ K.Dyn ∷ K.I64 ∷ []) n K.U64
 
 -- whether there is a pc, and the pc
-abbrev pub opt_code : OptPc → ℕ
-opt_code OptPc.None = 0
-opt_code (OptPc.Some pc) = 1
+abbrev pub opt_code : Option ℕ → ℕ
+opt_code None = 0
+opt_code (Some pc) = 1
 
-abbrev pub opt_word : OptPc → ℕ
-opt_word OptPc.None = 0
-opt_word (OptPc.Some pc) = pc
+abbrev pub opt_word : Option ℕ → ℕ
+opt_word None = 0
+opt_word (Some pc) = pc
 
-abbrev pub opt_of : ℕ → ℕ → OptPc
-opt_of n pc = pick (eqb n 0) OptPc.None (OptPc.Some (as_pc pc))
+abbrev pub opt_of : ℕ → ℕ → Option ℕ
+opt_of n pc = pick (eqb n 0) None (Some (as_pc pc))
 
 -- the same words
 abbrev pub same : List ℕ → List ℕ → Bool

@@ -7,11 +7,10 @@ ghost use Rattle.memory_world.specs.Told.{told};
 ghost use Rattle.memory_calls.specs.Answer.{step_code, answer_words, exit_words, told_stop};
 
 use crate::layout;
-use heap::value::Opt;
 use memory_world::machine::Told;
 use model::call::Answer;
 use model::exec::Step;
-use model::machine::{Outcome, Stop};
+use model::machine::Stop;
 
 // The words of an answer.
 pub const ANSWER_WIDTH: usize = 8;
@@ -43,12 +42,12 @@ fn told_stop(s: Stop) -> Told
     }
 }
 
-fn told_outcome(o: Outcome) -> Told
+fn told_outcome(o: Option<Stop>) -> Told
     ensures { result ≡ told o }
 {
     match o {
-        Outcome::None => Told(0, 0, 0, 0),
-        Outcome::Some(s) => told_stop(s),
+        None => Told(0, 0, 0, 0),
+        Some(s) => told_stop(s),
     }
 }
 
@@ -64,12 +63,12 @@ pub struct Eight(
     pub u64,
 );
 
-fn exit_words(v: Opt) -> Eight
+fn exit_words(v: Option<u64>) -> Eight
     ensures { result.0 ∷ result.1 ∷ result.2 ∷ result.3 ∷ result.4 ∷ result.5 ∷ result.6 ∷ result.7 ∷ [] ≡ exit_words v }
 {
     match v {
-        Opt::None => Eight(0, 0, 0, 0, 6, 0, 0, 0),
-        Opt::Some(v) => Eight(0, v, 0, 0, 7, 0, 0, 0),
+        None => Eight(0, 0, 0, 0, 6, 0, 0, 0),
+        Some(v) => Eight(0, v, 0, 0, 7, 0, 0, 0),
     }
 }
 

@@ -23,13 +23,6 @@ pub enum Gate {
     Operand,
 }
 
-#[derive(Clone, Copy)]
-pub enum Read {
-    Is(Op),
-    // no call, and the test that refuses the words
-    Not(Gate),
-}
-
 fn same_words(w: Six, n: u64, a: u64, b: u64, c: u64, d: u64, e: u64) -> bool
     ensures { result ≡ same (six w.0 w.1 w.2 w.3 w.4 w.5) (six n a b c d e) }
 {
@@ -113,23 +106,23 @@ pub fn refusal(g: Gate, depth: usize) -> Fault
     }
 }
 
-fn read_six(n: u64, a: u64, b: u64, c: u64, d: u64, e: u64) -> Read
+fn read_six(n: u64, a: u64, b: u64, c: u64, d: u64, e: u64) -> Result<Op, Gate>
     ensures { result ≡ op_of (six n a b c d e) }
 {
     let op = op_by(n, a, b, c, d, e);
     let w = words_of(op);
     if same_words(w, n, a, b, c, d, e) {
-        return Read::Is(op);
+        return Ok(op);
     }
-    Read::Not(gate_of(n, a))
+    Err(gate_of(n, a))
 }
 
 // The call that the words are, or the test that refuses them.
-pub fn op_of(words: &[u64]) -> Read
+pub fn op_of(words: &[u64]) -> Result<Op, Gate>
     ensures { result ≡ op_of words.now }
 {
     if words.len() != CALL_WIDTH {
-        return Read::Not(Gate::Operand);
+        return Err(Gate::Operand);
     }
     read_six(words[0], words[1], words[2], words[3], words[4], words[5])
 }

@@ -5,7 +5,6 @@ ghost use Rattle.memory_calls.specs.Codes.{as_pc, as_reg, as_argc, fault_of, kin
 use heap::fault::Fault;
 use heap::heap::ResultKind;
 use heap::value::{BITS8, BITS16, BITS32};
-use model::call::OptPc;
 
 pub(crate) fn as_pc(n: u64) -> u32
     ensures { result ≡ as_pc n }
@@ -75,29 +74,29 @@ pub(crate) fn kind_code(k: ResultKind) -> u64
 }
 
 // A pc, if the code says that there is one.
-pub(crate) fn opt_of(n: u64, pc: u64) -> OptPc
+pub(crate) fn opt_of(n: u64, pc: u64) -> Option<u32>
     ensures { result ≡ opt_of n pc }
 {
     if n == 0 {
-        return OptPc::None;
+        return None;
     }
-    OptPc::Some(as_pc(pc))
+    Some(as_pc(pc))
 }
 
-pub(crate) fn opt_code(p: OptPc) -> u64
+pub(crate) fn opt_code(p: Option<u32>) -> u64
     ensures { result ≡ opt_code p }
 {
     match p {
-        OptPc::None => 0,
-        OptPc::Some(_) => 1,
+        None => 0,
+        Some(_) => 1,
     }
 }
 
-pub(crate) fn opt_word(p: OptPc) -> u64
+pub(crate) fn opt_word(p: Option<u32>) -> u64
     ensures { result ≡ opt_word p }
 {
     match p {
-        OptPc::None => 0,
-        OptPc::Some(pc) => pc as u64,
+        None => 0,
+        Some(pc) => pc as u64,
     }
 }

@@ -25,7 +25,7 @@ use Rattle.model.specs.Calls.{table}
 use Rattle.model.specs.Step.{Out, call}
 use Rattle.model.specs.Step as Step
 use Rattle.model.specs.declared.call.Op.{Op}
-use Rattle.model.specs.declared.call.OptPc.{OptPc}
+use Rattle.std.specs.Prelude.{Option}
 use Rattle.model.specs.declared.call.Answer.{Answer}
 use Rattle.claims_invariant.specs.Kept.{raises}
 use Rattle.claims_sound.proofs.Tests.{no_false, no_true, and_left, and_right}
@@ -117,7 +117,7 @@ eleven s o n = go (is_sound s) refl
     go true e = inr (from e (raises (table o.op)) refl)
     go false e = inl e
 
-refused-fault : (f : Fault) (pc : OptPc) (w : World) → raisable f ≡ false → number_of (call (Op.Unwind f pc) w).answer ≡ 11
+refused-fault : (f : Fault) (pc : Option ℕ) (w : World) → raisable f ≡ false → number_of (call (Op.Unwind f pc) w).answer ≡ 11
 unfolding call unwind
 refused-fault f pc w e = ap (λ b. number_of (pick b (unwind_fault f (store_some pc w)) (after w (Answer.Refused Fault.Unsound))).answer) e ∙ ap (λ (x : After Answer). number_of x.answer) (pick-false _ _)
 

@@ -1,7 +1,7 @@
 -- Demand 1 of lent words, in sentences: of every state, whatever its words hold, and of every call.
 -- Every call has an answer: `memory_step` is a function of the state and the call, and none is left out. So the sentences say what it is: its
 -- number and what is left. Its word, its Step and its count are `step_words`'s, and the fault sheet's (`sheet`).
-use Rattle.std.specs.Prelude.{ℕ, suc, ◌*◌, ◌≡◌, true, false, ◌⊎◌, List, [], ◌∷◌, get_or, take, drop, eqb}
+use Rattle.std.specs.Prelude.{ℕ, suc, ◌*◌, ◌≡◌, true, false, ◌⊎◌, List, [], ◌∷◌, get_or, take, drop, eqb, Option}
 use Rattle.lists.specs.Chunks.{chunk_at}
 use Rattle.lists.specs.Tests.{zeros}
 use Rattle.heap.specs.Fault as Fault
@@ -12,7 +12,6 @@ use Rattle.model.specs.Program.{setup_ok}
 use Rattle.model.specs.Answer.{number_of}
 use Rattle.model.specs.Call.{Operation}
 use Rattle.model.specs.declared.call.Op.{Op}
-use Rattle.model.specs.declared.call.OptPc.{OptPc}
 use Rattle.memory_tables.specs.Sizes.{saved_stack_size, saved_frames_size}
 use Rattle.memory_world.specs.Memory.{Room}
 use Rattle.memory_world.specs.Words.{lengths_of}
@@ -31,7 +30,7 @@ abbrev pub faults : List ℕ
 faults = 1 ∷ 2 ∷ 3 ∷ 4 ∷ 5 ∷ 6 ∷ 7 ∷ 8 ∷ 9 ∷ 10 ∷ 17 ∷ []
 
 pub data NoSuchFault : Op → Type 0 where
-  no_such : (f : Fault) (pc : OptPc) → among (Fault.number_of f) faults ≡ false → NoSuchFault (Op.Unwind f pc)
+  no_such : (f : Fault) (pc : Option ℕ) → among (Fault.number_of f) faults ≡ false → NoSuchFault (Op.Unwind f pc)
 
 -- 01: "words not in use are 0", to the end of each slice
 pub record Clear (s : MemoryState) : Type 0 where

@@ -4,7 +4,7 @@ use Rattle.lists.specs.Pick.{pick}
 use Rattle.lists.specs.Chunks.{chunk_at, words}
 use Rattle.lists.specs.Parts.{pad}
 use Rattle.lists.proofs.Tables.{chunk-get, words-at}
-use Rattle.heap.specs.declared.value.Opt.{Opt}
+use Rattle.std.specs.Prelude.{Option, Some, None}
 use Rattle.model.specs.Program.{Setup, func, func_of, no_func, is_function}
 use Rattle.memory_tables.specs.Layout.{handlers_from, function_from, function_in, function_words}
 use Rattle.memory_tables.specs.Sizes.{setup_words, limits_of, costs_of, hook_of, functions_of}
@@ -16,24 +16,24 @@ limits-back s rest = refl
 pub costs-back : (s : Setup) (rest : List ℕ) → costs_of (setup_words s ++ rest) ≡ s.costs
 costs-back s rest = refl
 
-hooked : (s : Setup) (rest : List ℕ) (o : Opt) → s.hook ≡ o → hook_of (setup_words s ++ rest) ≡ o
+hooked : (s : Setup) (rest : List ℕ) (o : Option ℕ) → s.hook ≡ o → hook_of (setup_words s ++ rest) ≡ o
 unfolding pick
-hooked s rest Opt.None e = rw e
-hooked s rest (Opt.Some f) e = rw e
+hooked s rest None e = rw e
+hooked s rest (Some f) e = rw e
 
 pub hook-back : (s : Setup) (rest : List ℕ) → hook_of (setup_words s ++ rest) ≡ s.hook
 hook-back s rest = hooked s rest s.hook refl
 
-counted : (s : Setup) (rest : List ℕ) (o : Opt) → s.hook ≡ o → get_or (setup_words s ++ rest) 13 0 ≡ length s.functions
-counted s rest Opt.None e = rw e
-counted s rest (Opt.Some f) e = rw e
+counted : (s : Setup) (rest : List ℕ) (o : Option ℕ) → s.hook ≡ o → get_or (setup_words s ++ rest) 13 0 ≡ length s.functions
+counted s rest None e = rw e
+counted s rest (Some f) e = rw e
 
 pub functions-count : (s : Setup) (rest : List ℕ) → get_or (setup_words s ++ rest) 13 0 ≡ length s.functions
 functions-count s rest = counted s rest s.hook refl
 
-after : (s : Setup) (rest : List ℕ) (o : Opt) → s.hook ≡ o → drop 14 (setup_words s ++ rest) ≡ words function_words s.functions ++ rest
-after s rest Opt.None e = rw e
-after s rest (Opt.Some f) e = rw e
+after : (s : Setup) (rest : List ℕ) (o : Option ℕ) → s.hook ≡ o → drop 14 (setup_words s ++ rest) ≡ words function_words s.functions ++ rest
+after s rest None e = rw e
+after s rest (Some f) e = rw e
 
 -- ---- handlers and functions, from one list at an offset and from another at none
 

@@ -1,9 +1,8 @@
 -- The set-up in words, and the words that a machine of that set-up needs in each lent slice.
-use Rattle.std.specs.Prelude.{ℕ, ◌+◌, ◌*◌, List, [], ◌∷◌, ◌++◌, length, ◌==◌, slice_index}
+use Rattle.std.specs.Prelude.{ℕ, ◌+◌, ◌*◌, List, [], ◌∷◌, ◌++◌, length, ◌==◌, slice_index, Option, Some, None}
 use Rattle.lists.specs.Pick.{pick}
 use Rattle.lists.specs.Chunks.{words}
 use Rattle.heap.specs.Slot.{width}
-use Rattle.heap.specs.declared.value.Opt.{Opt}
 use Rattle.model.specs.Program.{Setup}
 use Rattle.model.specs.Sound.{row_words}
 use Rattle.model.specs.declared.program.Limits.{Limits}
@@ -12,9 +11,9 @@ use Rattle.memory_tables.specs.Layout.{function_words, numbers_width}
 
 -- ---- the set-up: five limits, six costs, the hook, the number of functions, then the functions
 
-abbrev pub hook_words : Opt → List ℕ
-hook_words Opt.None = 0 ∷ 0 ∷ []
-hook_words (Opt.Some f) = 1 ∷ f ∷ []
+abbrev pub hook_words : Option ℕ → List ℕ
+hook_words None = 0 ∷ 0 ∷ []
+hook_words (Some f) = 1 ∷ f ∷ []
 
 abbrev pub numbers_words : Setup → List ℕ
 numbers_words s =
@@ -31,8 +30,8 @@ limits_of ws = record { depth = slice_index ws 0; stack = slice_index ws 1; rows
 abbrev pub costs_of : List ℕ → Costs
 costs_of ws = record { frame = slice_index ws 5; coro = slice_index ws 6; object = slice_index ws 7; int = slice_index ws 8; error = slice_index ws 9; iter = slice_index ws 10 }
 
-abbrev pub hook_of : List ℕ → Opt
-hook_of ws = pick (slice_index ws 11 == 0) Opt.None (Opt.Some (slice_index ws 12))
+abbrev pub hook_of : List ℕ → Option ℕ
+hook_of ws = pick (slice_index ws 11 == 0) None (Some (slice_index ws 12))
 
 -- the number of functions
 abbrev pub functions_of : List ℕ → ℕ

@@ -32,11 +32,7 @@ fn driver_code(d: Driver) -> u64
 {
     match d {
         Driver::Resume(_) => RESUME,
-        Driver::Iter {
-            has: _,
-            val: _,
-            iter: _,
-        } => ITER,
+        Driver::Iter { .. } => ITER,
         Driver::Host => HOST,
         Driver::Finalize => FINALIZE,
     }
@@ -47,43 +43,28 @@ fn driver_first(d: Driver) -> u64
 {
     match d {
         Driver::Resume(r) => r,
-        Driver::Iter {
-            has,
-            val: _,
-            iter: _,
-        } => has,
-        Driver::Host => 0,
-        Driver::Finalize => 0,
+        Driver::Iter { has, .. } => has,
+        Driver::Host | Driver::Finalize => 0,
     }
 }
 
 fn driver_second(d: Driver) -> u64
     ensures { result ≡ driver_second d }
 {
-    match d {
-        Driver::Resume(_) => 0,
-        Driver::Iter {
-            has: _,
-            val,
-            iter: _,
-        } => val,
-        Driver::Host => 0,
-        Driver::Finalize => 0,
+    if let Driver::Iter { val, .. } = d {
+        val
+    } else {
+        0
     }
 }
 
 fn driver_third(d: Driver) -> u64
     ensures { result ≡ driver_third d }
 {
-    match d {
-        Driver::Resume(_) => 0,
-        Driver::Iter {
-            has: _,
-            val: _,
-            iter,
-        } => iter,
-        Driver::Host => 0,
-        Driver::Finalize => 0,
+    if let Driver::Iter { iter, .. } = d {
+        iter
+    } else {
+        0
     }
 }
 

@@ -5,8 +5,7 @@ ghost use Rattle.memory_tables.specs.Layout.{handler_from, handlers_from, functi
 ghost use Rattle.memory_tables.specs.Sizes.{limits_of, costs_of, hook_of, functions_of};
 
 use crate::layout;
-use heap::value::Opt;
-use model::program::{Caught, Costs, Function, Handler, Limits, MOST_HANDLERS};
+use model::program::{Costs, Function, Handler, Limits, MOST_HANDLERS};
 
 // The numbers of a set-up, which stand before its functions; the words of a function, and of a handler.
 pub const NUMBERS_WIDTH: usize = 14;
@@ -42,14 +41,14 @@ pub fn costs(setup: &[u64]) -> Costs
     }
 }
 
-pub fn hook(setup: &[u64]) -> Opt
+pub fn hook(setup: &[u64]) -> Option<u64>
     requires { 14 ≤ length setup.now }
     ensures { result ≡ hook_of setup.now }
 {
     if setup[layout::HOOK] == 0 {
-        return Opt::None;
+        return None;
     }
-    Opt::Some(setup[layout::HOOK_FUNCTION])
+    Some(setup[layout::HOOK_FUNCTION])
 }
 
 fn handler_from(setup: &[u64], at: usize) -> Handler
@@ -131,27 +130,23 @@ pub fn is_function(setup: &[u64], f: u64) -> bool
 fn covered(h: Handler, pc: u64) -> bool
     ensures { result ≡ covers pc h }
 {
-    if h.start <= pc {
-        return pc < h.end;
-    }
-    false
+    h.start <= pc && pc < h.end
 }
 
-fn first_of(hs: [Handler; MOST_HANDLERS], n: usize, pc: u64) -> Caught
+fn first_of(hs: [Handler; MOST_HANDLERS], n: usize, pc: u64) -> Option<Handler>
     requires { n ≤ 8 }
     ensures { result ≡ first_of pc (take n hs) }
 {
-    for i in 0..n {
-        let h = hs[i];
-        if covered(h, pc) {
-            return Caught::By(h);
+    for h in &hs[..n] {
+        if covered(*h, pc) {
+            return Some(*h);
         }
     }
-    Caught::Nothing
+    None
 }
 
 // The first handler of a function that covers a pc.
-pub fn first_handler(f: Function, pc: u64) -> Caught
+pub fn first_handler(f: Function, pc: u64) -> Option<Handler>
     requires { f.count ≤ 8 }
     ensures { result ≡ first_of pc (func_of f).handlers }
 {
@@ -160,7 +155,7 @@ pub fn first_handler(f: Function, pc: u64) -> Caught
 }
 
 // The first handler of function i that covers a pc.
-pub fn handler_at(setup: &[u64], i: usize, pc: u64) -> Caught
+pub fn handler_at(setup: &[u64], i: usize, pc: u64) -> Option<Handler>
     requires { (14 + i * 35 + 35 ≤ length setup.now) × ((function_in setup.now i).count ≤ 8) }
     ensures { result ≡ first_of pc (func_of (function_in setup.now i)).handlers }
 {

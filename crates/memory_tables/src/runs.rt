@@ -22,11 +22,9 @@ pub fn move_words(dst: &mut [u64], at: usize, src: &mut [u64], from: usize, n: u
     requires { (at + n ≤ length dst.old) × (from + n ≤ length src.old) }
     ensures { Moved dst.old src.old dst.new src.new at from n }
 {
-    if 8 < n {
-        if n <= MOST_STACK {
-            move_block(dst, at, src, from, n);
-            return;
-        }
+    if 8 < n && n <= MOST_STACK {
+        move_block(dst, at, src, from, n);
+        return;
     }
     lists::take_words(&mut dst[at..at + n], &mut src[from..from + n]);
 }
@@ -66,11 +64,7 @@ pub fn move_down(s: &mut [u64], from: usize, n: usize)
     requires { from + n ≤ length s.old }
     ensures { s.new ≡ lowered from n s.old }
 {
-    let mut to = 0;
-    while to < n {
-        s[to] = s[to + from];
-        to += 1;
-    }
+    s.copy_within(from..from + n, 0);
 }
 
 // The frame at word k of `src` goes to word i of `dst`, its base less by `old` and more by `new`; its words become 0 in `src`.
@@ -112,8 +106,7 @@ pub fn move_frames(
     requires { (at + n * 6 ≤ length dst.old) × RebaseFits src.old from n old new }
     ensures { (dst.new ≡ rebase (between old new) n at (splice dst.old at (part from (n * 6) src.old))) × (src.new ≡ splice src.old from (replicate (n * 6) 0)) }
 {
-    let mut j = 0;
-    while j < n {
+    for j in 0..n {
         move_frame(
             dst,
             at + j * FRAME_WIDTH,
@@ -122,6 +115,5 @@ pub fn move_frames(
             old,
             new,
         );
-        j += 1;
     }
 }

@@ -11,7 +11,7 @@ use Rattle.lists.specs.Parts.{pad}
 use Rattle.lists.proofs.Tables.{length-words}
 use Rattle.heap.specs.Table.{Slot}
 use Rattle.heap.specs.Slot.{slot_words, slot_of_words, width}
-use Rattle.heap.specs.declared.value.Opt.{Opt}
+use Rattle.std.specs.Prelude.{Option, Some, None}
 use Rattle.heap.specs.declared.object.Object as H
 use Rattle.heap.proofs.Slots.{length-slot}
 use Rattle.model.specs.Program.{Setup, no_func, setup_ok}
@@ -46,9 +46,9 @@ pad-long cap xs =
     let b : length (replicate {A = ℕ} (cap - length xs) 0) ≡ cap - length xs = length-replicate (cap - length xs) 0 in
     omega arith
 
-numbers-long : (s : Setup) (o : Opt) → s.hook ≡ o → length (setup_words s) ≡ 14 + length (words function_words s.functions)
-numbers-long s Opt.None e = rw e (omega arith)
-numbers-long s (Opt.Some f) e = rw e (omega arith)
+numbers-long : (s : Setup) (o : Option ℕ) → s.hook ≡ o → length (setup_words s) ≡ 14 + length (words function_words s.functions)
+numbers-long s None e = rw e (omega arith)
+numbers-long s (Some f) e = rw e (omega arith)
 
 pub length-setup : (s : Setup) → length (setup_words s) ≡ setup_size s
 length-setup s = numbers-long s s.hook refl ∙ ap (λ n. 14 + n) (length-words 35 function_words (λ ws. no_func) length-function s.functions)

@@ -11,15 +11,14 @@ use borrow.Author.Tests.{eq-eqb, ne_eqb, ltb-true}
 use Rattle.lists.specs.Pick.{pick}
 use Rattle.lists.proofs.Tests.{never, and-false}
 use Rattle.lists.specs.Chunks.{chunk_at}
+use Rattle.lists.proofs.Results.{ok-same}
 use Rattle.heap.specs.Word.{nil, slot_of, tag_of, top_of, class_of}
 use Rattle.heap.specs.Slot.{slot_words, width}
 use Rattle.heap.specs.Coding.{bits_of, of_bits}
 use Rattle.heap.specs.Table.{Slot, slot, names, get, get_in, not_a, put_object}
 use Rattle.heap.specs.Heap.{as_coro, coro_by, coro_of}
 use Rattle.heap.specs.declared.value.Class.{Class}
-use Rattle.heap.specs.declared.heap.Place.{Place}
-use Rattle.heap.specs.declared.heap.Coroutine as R
-use Rattle.heap.specs.declared.heap.Coroutine.TheVariants as RV
+use Rattle.std.specs.Prelude.{Option, Result, Some, None, Ok, Err}
 use Rattle.heap.specs.declared.fault.Fault.{Fault}
 use Rattle.heap.specs.declared.object.CoroObj.{CoroObj}
 use Rattle.heap.specs.declared.object.Object as H
@@ -55,18 +54,18 @@ pub record There (xs : List (Slot Object)) (v i : ℕ) (c : CoroObj) : Type 0 wh
 
 module _ (xs : List (Slot Object)) (v : ℕ) where
   -- the fault of a word that finds an object of another kind
-  pub found-fault : (k : Class) (i : ℕ) → get_in Object.Empty is_filled xs k ≡ Place.At i → not_a k (Place.At i) ≡ Fault.TypeError
+  pub found-fault : (k : Class) (i : ℕ) → get_in Object.Empty is_filled xs k ≡ Some i → not_a k (Some i) ≡ Fault.TypeError
   found-fault Class.Nil i e = never cc
   found-fault (Class.Ref o) i e = refl
   found-fault (Class.Int n) i e = refl
   found-fault Class.Opaque i e = refl
 
-  by_name : (t : Bool) (i : ℕ) → pick t (Place.At (slot_of v)) Place.Nothing ≡ Place.At i → i ≡ slot_of v
+  by_name : (t : Bool) (i : ℕ) → pick t (Some (slot_of v)) None ≡ Some i → i ≡ slot_of v
   unfolding pick
   by_name true i e = cc
   by_name false i e = never cc
 
-  by-class : (a b c : Bool) (z i : ℕ) → get_in Object.Empty is_filled xs (pick a Class.Nil (pick b (Class.Ref (record { 0 = v })) (pick c (Class.Int z) Class.Opaque))) ≡ Place.At i → i ≡ slot_of v
+  by-class : (a b c : Bool) (z i : ℕ) → get_in Object.Empty is_filled xs (pick a Class.Nil (pick b (Class.Ref (record { 0 = v })) (pick c (Class.Int z) Class.Opaque))) ≡ Some i → i ≡ slot_of v
   unfolding pick
   by-class true b c z i e = never cc
   by-class false true c z i e = by_name (names Object.Empty is_filled xs v) i e
@@ -74,13 +73,13 @@ module _ (xs : List (Slot Object)) (v : ℕ) where
   by-class false false false z i e = never cc
 
   -- the slot of a word that finds one
-  pub place-slot : (i : ℕ) → get Object.Empty is_filled xs v ≡ Place.At i → i ≡ slot_of v
+  pub place-slot : (i : ℕ) → get Object.Empty is_filled xs v ≡ Some i → i ≡ slot_of v
   place-slot i e = by-class (eqb v nil) (eqb (top_of v) 1) (eqb (top_of v) 0xFFFE) (bits_of 63 (of_bits 47 (v % 2 ^ 48))) i e
 
-  here : (f : R.Coroutine) → f ≡ coro_of (to_slots xs) v → f ≡ coro_by (to_slots xs) v (get Object.Empty is_filled xs v)
+  here : (f : Result (ℕ × CoroObj) Fault) → f ≡ coro_of (to_slots xs) v → f ≡ coro_by (to_slots xs) v (get Object.Empty is_filled xs v)
   here f e = e ∙ ap (coro_by (to_slots xs) v) (get-same xs v)
 
-  other : (o : Object) (i : ℕ) (f : Fault) → RV.Not f ≡ as_coro i (to_object o) → (M.as_coro o ≡ Absent) × (f ≡ Fault.TypeError)
+  other : (o : Object) (i : ℕ) (f : Fault) → Err f ≡ as_coro i (to_object o) → (M.as_coro o ≡ Absent) × (f ≡ Fault.TypeError)
   other Object.Empty i f e = (refl, cc)
   other (Object.Func x) i f e = (refl, cc)
   other (Object.Int x) i f e = (refl, cc)
@@ -88,14 +87,14 @@ module _ (xs : List (Slot Object)) (v : ℕ) where
   other (Object.Error a b p x) i f e = (refl, cc)
   other (Object.Coro k r) i f e = never cc
 
-  pub lacks : (f : Fault) → RV.Not f ≡ coro_of (to_slots xs) v → Lacks xs v f
-  lacks f e = go (get Object.Empty is_filled xs v) refl (here (RV.Not f) e)
+  pub lacks : (f : Fault) → Err f ≡ coro_of (to_slots xs) v → Lacks xs v f
+  lacks f e = go (get Object.Empty is_filled xs v) refl (here (Err f) e)
     where
-      go : (p : Place) → get Object.Empty is_filled xs v ≡ p → RV.Not f ≡ coro_by (to_slots xs) v p → Lacks xs v f
-      go Place.Nothing q e =
-          let z : f ≡ not_a (class_of v) Place.Nothing = cc in
+      go : (p : Option ℕ) → get Object.Empty is_filled xs v ≡ p → Err f ≡ coro_by (to_slots xs) v p → Lacks xs v f
+      go None q e =
+          let z : f ≡ not_a (class_of v) None = cc in
           record { coro = ap (λ p. M.as_coro (object_at xs p)) q; fault = z ∙ ap (not_a (class_of v)) (sym q) }
-      go (Place.At i) q e =
+      go (Some i) q e =
           let z = other (at xs i).object i f (e ∙ ap (λ (x : Slot H.Object). as_coro i x.object) (at_map xs i)) in
           record { coro = ap (λ p. M.as_coro (object_at xs p)) q ∙ z.0; fault = z.1 ∙ sym (found-fault (class_of v) i q) ∙ ap (not_a (class_of v)) (sym q) }
 
@@ -107,20 +106,22 @@ module _ (xs : List (Slot Object)) (v : ℕ) where
       is : c ≡ to_coro core rest
       slot : i ≡ j
 
-    inside : (o : Object) (j : ℕ) → RV.At i c ≡ as_coro j (to_object o) → Inside o j
+    inside : (o : Object) (j : ℕ) → Ok (i, c) ≡ as_coro j (to_object o) → Inside o j
     inside Object.Empty j e = never cc
     inside (Object.Func x) j e = never cc
     inside (Object.Int x) j e = never cc
     inside (Object.Iter s d x) j e = never cc
     inside (Object.Error a b p x) j e = never cc
-    inside (Object.Coro k r) j e = record { core = k; rest = r; object = refl; is = cc; slot = cc }
+    inside (Object.Coro k r) j e =
+        let same = ok-same e in
+        record { core = k; rest = r; object = refl; is = ap (λ (p : ℕ × CoroObj). p.1) same; slot = ap (λ (p : ℕ × CoroObj). p.0) same }
 
-    pub there : RV.At i c ≡ coro_of (to_slots xs) v → There xs v i c
-    there e = go (get Object.Empty is_filled xs v) refl (here (RV.At i c) e)
+    pub there : Ok (i, c) ≡ coro_of (to_slots xs) v → There xs v i c
+    there e = go (get Object.Empty is_filled xs v) refl (here (Ok (i, c)) e)
       where
-        go : (p : Place) → get Object.Empty is_filled xs v ≡ p → RV.At i c ≡ coro_by (to_slots xs) v p → There xs v i c
-        go Place.Nothing q e = never cc
-        go (Place.At j) q e =
+        go : (p : Option ℕ) → get Object.Empty is_filled xs v ≡ p → Ok (i, c) ≡ coro_by (to_slots xs) v p → There xs v i c
+        go None q e = never cc
+        go (Some j) q e =
             let z = inside (at xs j).object j (e ∙ ap (λ (x : Slot H.Object). as_coro j x.object) (at_map xs j)) in
             record { core = z.core; rest = z.rest; coro = ap (λ p. M.as_coro (object_at xs p)) q ∙ z.object; is = z.is; slot = z.slot ∙ place-slot j q }
 

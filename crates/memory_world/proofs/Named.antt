@@ -7,9 +7,7 @@ use Rattle.heap.specs.Word.{class_of}
 use Rattle.heap.specs.Object as HO
 use Rattle.heap.specs.Table.{Slot, get, not_a}
 use Rattle.heap.specs.Kind.{as_callee, callee_by, callee_of, done_by, done_of}
-use Rattle.heap.specs.declared.heap.Place.{Place}
-use Rattle.heap.specs.declared.kind.Callable.{Callable}
-use Rattle.heap.specs.declared.kind.Callable.TheVariants as K
+use Rattle.std.specs.Prelude.{Option, Result, Some, None, Ok, Err}
 use Rattle.heap.specs.declared.fault.Fault.{Fault}
 use Rattle.heap.specs.declared.object.Object as H
 use Rattle.model.specs.Object.{Object, is_filled, is_done}
@@ -33,23 +31,23 @@ pub record NoFunc (xs : List (Slot Object)) (v : ℕ) (f : Fault) : Type 0 where
   pub fault : f ≡ not_a (class_of v) (get Object.Empty is_filled xs v)
 
 module _ (xs : List (Slot Object)) (v : ℕ) where
-  abbrev place : Place
+  abbrev place : Option ℕ
   place = get Object.Empty is_filled xs v
 
-  done_at : (p : Place) → done_by (to_slots xs) p ≡ is_done (object_at xs p)
-  done_at Place.Nothing = refl
-  done_at (Place.At i) = ap (λ (x : Slot H.Object). HO.is_done x.object) (at_map xs i) ∙ done-object (at xs i).object
+  done_at : (p : Option ℕ) → done_by (to_slots xs) p ≡ is_done (object_at xs p)
+  done_at None = refl
+  done_at (Some i) = ap (λ (x : Slot H.Object). HO.is_done x.object) (at_map xs i) ∙ done-object (at xs i).object
 
   pub done-same : done_of (to_slots xs) v ≡ is_done (object_in xs v)
   done-same = ap (done_by (to_slots xs)) (get-same xs v) ∙ done_at place
 
-  looked : (r : Callable) → r ≡ callee_of (to_slots xs) v → r ≡ callee_by (to_slots xs) v place
+  looked : (r : Result ℕ Fault) → r ≡ callee_of (to_slots xs) v → r ≡ callee_by (to_slots xs) v place
   looked r e = e ∙ ap (callee_by (to_slots xs) v) (get-same xs v)
 
-  seen : (r : Callable) (i : ℕ) → r ≡ callee_by (to_slots xs) v (Place.At i) → r ≡ as_callee (to_object (at xs i).object)
+  seen : (r : Result ℕ Fault) (i : ℕ) → r ≡ callee_by (to_slots xs) v (Some i) → r ≡ as_callee (to_object (at xs i).object)
   seen r i e = e ∙ ap (λ (x : Slot H.Object). as_callee x.object) (at_map xs i)
 
-  func-object : (f : ℕ) (o : Object) → K.Func f ≡ as_callee (to_object o) → o ≡ Object.Func f
+  func-object : (f : ℕ) (o : Object) → Ok f ≡ as_callee (to_object o) → o ≡ Object.Func f
   func-object f Object.Empty e = never cc
   func-object f (Object.Func g) e = ap Object.Func (let z : g ≡ f = cc in z)
   func-object f (Object.Int n) e = never cc
@@ -57,15 +55,15 @@ module _ (xs : List (Slot Object)) (v : ℕ) where
   func-object f (Object.Error a b p x) e = never cc
   func-object f (Object.Coro k r) e = never cc
 
-  func-at : (f : ℕ) (p : Place) → K.Func f ≡ callee_by (to_slots xs) v p → object_at xs p ≡ Object.Func f
-  func-at f Place.Nothing e = never cc
-  func-at f (Place.At i) e = func-object f (at xs i).object (seen (K.Func f) i e)
+  func-at : (f : ℕ) (p : Option ℕ) → Ok f ≡ callee_by (to_slots xs) v p → object_at xs p ≡ Object.Func f
+  func-at f None e = never cc
+  func-at f (Some i) e = func-object f (at xs i).object (seen (Ok f) i e)
 
   -- a function that is found is the world's
-  pub callee-func : (f : ℕ) → K.Func f ≡ callee_of (to_slots xs) v → object_in xs v ≡ Object.Func f
-  callee-func f e = func-at f place (looked (K.Func f) e)
+  pub callee-func : (f : ℕ) → Ok f ≡ callee_of (to_slots xs) v → object_in xs v ≡ Object.Func f
+  callee-func f e = func-at f place (looked (Ok f) e)
 
-  none-object : (f : Fault) (o : Object) → K.Not f ≡ as_callee (to_object o) → (f ≡ Fault.TypeError) × ((g : ℕ) → o ≡ Object.Func g → ⊥)
+  none-object : (f : Fault) (o : Object) → Err f ≡ as_callee (to_object o) → (f ≡ Fault.TypeError) × ((g : ℕ) → o ≡ Object.Func g → ⊥)
   none-object f Object.Empty e = (cc, λ g z. never cc)
   none-object f (Object.Func h) e = never cc
   none-object f (Object.Int n) e = (cc, λ g z. never cc)
@@ -73,20 +71,20 @@ module _ (xs : List (Slot Object)) (v : ℕ) where
   none-object f (Object.Error a b p x) e = (cc, λ g z. never cc)
   none-object f (Object.Coro k r) e = (cc, λ g z. never cc)
 
-  none-at : (f : Fault) (p : Place) → place ≡ p → K.Not f ≡ callee_by (to_slots xs) v p → NoFunc xs v f
-  none-at f Place.Nothing q e =
-      let z : f ≡ not_a (class_of v) Place.Nothing = cc in
+  none-at : (f : Fault) (p : Option ℕ) → place ≡ p → Err f ≡ callee_by (to_slots xs) v p → NoFunc xs v f
+  none-at f None q e =
+      let z : f ≡ not_a (class_of v) None = cc in
       record {
         object = λ g h. let o : Object.Empty ≡ Object.Func g = sym (ap (object_at xs) q) ∙ h in never cc;
         fault = z ∙ ap (not_a (class_of v)) (sym q);
       }
-  none-at f (Place.At i) q e =
-      let z = none-object f (at xs i).object (seen (K.Not f) i e) in
+  none-at f (Some i) q e =
+      let z = none-object f (at xs i).object (seen (Err f) i e) in
       record {
         object = λ g h. z.1 g (sym (ap (object_at xs) q) ∙ h);
         fault = z.0 ∙ sym (found-fault xs v (class_of v) i q) ∙ ap (not_a (class_of v)) (sym q);
       }
 
   -- where none is found the world has none, and the fault is the world's
-  pub callee-none : (f : Fault) → K.Not f ≡ callee_of (to_slots xs) v → NoFunc xs v f
-  callee-none f e = none-at f place refl (looked (K.Not f) e)
+  pub callee-none : (f : Fault) → Err f ≡ callee_of (to_slots xs) v → NoFunc xs v f
+  callee-none f e = none-at f place refl (looked (Err f) e)

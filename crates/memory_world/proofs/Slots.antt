@@ -10,8 +10,7 @@ use Rattle.heap.specs.Object as HO
 use Rattle.heap.specs.Table.{Slot, slot, slot_at, names, get_in, get, put_object, push_object}
 use Rattle.heap.specs.Heap.{as_coro, coro_by, coro_of}
 use Rattle.heap.specs.declared.value.Class.{Class}
-use Rattle.heap.specs.declared.heap.Place.{Place}
-use Rattle.heap.specs.declared.heap.Coroutine.TheVariants as RV
+use Rattle.std.specs.Prelude.{Some, None, Ok}
 use Rattle.heap.specs.declared.object.Object as H
 use Rattle.heap.specs.declared.object.Object.TheVariants as O
 use Rattle.model.specs.Object.{Core, Rest, Object, is_filled}
@@ -37,7 +36,7 @@ names_same xs v = rw (length-map xs to_slot, at_map xs (slot_of v), filled-same 
 
 in-same : (xs : List (Slot Object)) (k : Class) → get_in O.Empty HO.is_filled (to_slots xs) k ≡ get_in Object.Empty is_filled xs k
 in-same xs Class.Nil = refl
-in-same xs (Class.Ref o) = ap (λ (b : Bool). pick b (Place.At (slot_of o.0)) Place.Nothing) (names_same xs o.0)
+in-same xs (Class.Ref o) = ap (λ (b : Bool). pick b (Some (slot_of o.0)) None) (names_same xs o.0)
 in-same xs (Class.Int n) = refl
 in-same xs Class.Opaque = refl
 
@@ -48,11 +47,11 @@ get-same xs v = in-same xs (class_of v)
 -- ---- coroutines
 
 pub record Found (xs : List (Slot Object)) (v i : ℕ) (k : Core) (r : Rest) : Type 0 where
-  pub place : get Object.Empty is_filled xs v ≡ Place.At i
+  pub place : get Object.Empty is_filled xs v ≡ Some i
   pub object : (slot_at Object.Empty is_filled xs i).object ≡ Object.Coro k r
 
 -- a coroutine of the world is found with its record
-pub coro-found : (xs : List (Slot Object)) (v i : ℕ) (k : Core) (r : Rest) → Found xs v i k r → coro_of (to_slots xs) v ≡ RV.At i (to_coro k r)
+pub coro-found : (xs : List (Slot Object)) (v i : ℕ) (k : Core) (r : Rest) → Found xs v i k r → coro_of (to_slots xs) v ≡ Ok (i, to_coro k r)
 coro-found xs v i k r f =
     ap (coro_by (to_slots xs) v) (get-same xs v ∙ f.place)
     ∙ ap (λ (x : Slot H.Object). as_coro i x.object) (at_map xs i)

@@ -14,9 +14,7 @@ use Rattle.heap.specs.Table.{Slot, slot, put_object}
 use Rattle.heap.specs.Slot.{width, slot_words}
 use Rattle.heap.specs.Heap.{SlotFits, coro_in, slots_of, place_of, coro_of, put_slot}
 use Rattle.heap.specs.declared.fault.Fault.{Fault}
-use Rattle.heap.specs.declared.heap.Coroutine as R
-use Rattle.heap.specs.declared.heap.Coroutine.TheVariants as RV
-use Rattle.heap.specs.declared.heap.CoroPlace.TheVariants as L
+use Rattle.std.specs.Prelude.{Result, Ok, Err}
 use Rattle.heap.specs.declared.object.CoroObj.{CoroObj}
 use Rattle.heap.specs.declared.object.Object as H
 use Rattle.heap.specs.declared.object.Object.TheVariants as O
@@ -108,19 +106,19 @@ object-rep l M m f w v i o o' slots' rep p e owner saved q =
 -- ---- a coroutine whose marks, keys or signal change
 
 module _ (l : Sizes) (M : Lent) (m : Machine) (f : Fuel) (v : ℕ) (w : World) (rep : Rep l w M m f) where
-  pub in-slots : (x : R.Coroutine) → x ≡ coro_of (slots_of m.count M.slots) v → x ≡ coro_of (to_slots w.slots) v
+  pub in-slots : (x : Result (ℕ × CoroObj) Fault) → x ≡ coro_of (slots_of m.count M.slots) v → x ≡ coro_of (to_slots w.slots) v
   in-slots x e = e ∙ ap (λ xs. coro_of xs v) (slots-are (to_slots w.slots) M.slots m.count rep.slots)
 
-  pub coro-absent : (g : Fault) → RV.Not g ≡ coro_of (slots_of m.count M.slots) v → coro w v ≡ Absent
-  coro-absent g e = (lacks w.slots v g (in-slots (RV.Not g) e)).coro
+  pub coro-absent : (g : Fault) → Err g ≡ coro_of (slots_of m.count M.slots) v → coro w v ≡ Absent
+  coro-absent g e = (lacks w.slots v g (in-slots (Err g) e)).coro
 
   -- where the word names none, nothing changes
-  pub rest-absent : (g : Rest → Rest) (x : Fault) → RV.Not x ≡ coro_of (slots_of m.count M.slots) v → Rep l (change_as (coro w v) v (λ k. k) g w) M m f
+  pub rest-absent : (g : Rest → Rest) (x : Fault) → Err x ≡ coro_of (slots_of m.count M.slots) v → Rep l (change_as (coro w v) v (λ k. k) g w) M m f
   rest-absent g x e = subst (λ c. Rep l (change_as c v (λ k. k) g w) M m f) (sym (coro-absent x e)) rep
 
   module _ (i : ℕ) (c : CoroObj) where
-    pub coro-there : RV.At i c ≡ coro_of (slots_of m.count M.slots) v → There w.slots v i c
-    coro-there found = there w.slots v i c (in-slots (RV.At i c) found)
+    pub coro-there : Ok (i, c) ≡ coro_of (slots_of m.count M.slots) v → There w.slots v i c
+    coro-there found = there w.slots v i c (in-slots (Ok (i, c)) found)
 
     module _ (t : There w.slots v i c) where
       points : Points w.slots v (Object.Coro t.core t.rest)
@@ -141,7 +139,7 @@ module _ (l : Sizes) (M : Lent) (m : Machine) (f : Fuel) (v : ℕ) (w : World) (
 
 -- ---- a coroutine at a place, whose words are read and written there
 
-module _ (l : Sizes) (M : Lent) (m : Machine) (f : Fuel) (v : ℕ) (w : World) (rep : Rep l w M m f) (i : ℕ) (at : L.At i ≡ place_of (coro_of (slots_of m.count M.slots) v)) where
+module _ (l : Sizes) (M : Lent) (m : Machine) (f : Fuel) (v : ℕ) (w : World) (rep : Rep l w M m f) (i : ℕ) (at : Ok i ≡ place_of (coro_of (slots_of m.count M.slots) v)) where
   pub placed : There w.slots v i (coro_in M.slots i)
   placed = coro-there l M m f v w rep i (coro_in M.slots i) (stands m.count M.slots v i at).coro
 

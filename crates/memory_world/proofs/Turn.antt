@@ -12,7 +12,8 @@ use Rattle.model.specs.Sound.{row_words}
 use Rattle.model.specs.declared.machine.Active.{Active}
 use Rattle.model.specs.declared.machine.Frame.{Frame}
 use Rattle.model.specs.declared.machine.Fuel.{Fuel}
-use Rattle.model.specs.declared.machine.Outcome.{Outcome}
+use Rattle.std.specs.Prelude.{Option}
+use Rattle.model.specs.declared.machine.Stop.{Stop}
 use Rattle.memory_tables.specs.Parts.{Stack, Frames, Chain, Queue, SavedStack, SavedFrames}
 use Rattle.memory_tables.specs.Sizes.{setup_words, frames_size}
 use Rattle.memory_world.specs.Slots.{to_slots}
@@ -78,7 +79,7 @@ module _ (l : Sizes) (w : World) (M : Lent) (m : Machine) (f : Fuel) (rep : Rep 
   turn-finalizing b =
       rep-of rep.sizes rep.setup rep.stack rep.frames rep.chain rep.slots rep.saved_stack rep.saved_frames rep.ready rep.finalize refl rep.outcome rep.used rep.seq rep.fuel
 
-  pub turn-outcome : (o : Outcome) → Rep l (with_outcome o w) M (with_told (told o) m) f
+  pub turn-outcome : (o : Option Stop) → Rep l (with_outcome o w) M (with_told (told o) m) f
   turn-outcome o =
       rep-of rep.sizes rep.setup rep.stack rep.frames rep.chain rep.slots rep.saved_stack rep.saved_frames rep.ready rep.finalize rep.finalizing refl rep.used rep.seq rep.fuel
 

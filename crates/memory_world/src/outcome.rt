@@ -1,10 +1,9 @@
 // An outcome in words, and read from them.
 ghost use Rattle.std.specs.Prelude.{◌≡◌};
-ghost use Rattle.model.specs.declared.machine.Outcome.TheVariants.{Some};
 ghost use Rattle.memory_world.specs.Told.{told, outcome_in};
 
 use crate::machine::Told;
-use model::machine::{Outcome, Stop};
+use model::machine::Stop;
 
 // The numbers of what a coroutine did.
 pub const NONE: u64 = 0;
@@ -32,33 +31,33 @@ pub fn told_stop(s: Stop) -> Told
     }
 }
 
-pub fn told_outcome(o: Outcome) -> Told
+pub fn told_outcome(o: Option<Stop>) -> Told
     ensures { result ≡ told o }
 {
     match o {
-        Outcome::None => Told(NONE, 0, 0, 0),
-        Outcome::Some(s) => told_stop(s),
+        None => Told(NONE, 0, 0, 0),
+        Some(s) => told_stop(s),
     }
 }
 
 // The outcome that the words tell.
-pub fn outcome_in(t: Told) -> Outcome
+pub fn outcome_in(t: Told) -> Option<Stop>
     ensures { result ≡ outcome_in t }
 {
     if t.0 == NONE {
-        return Outcome::None;
+        return None;
     }
     if t.0 == YIELDED {
-        return Outcome::Some(Stop::Yielded(t.1));
+        return Some(Stop::Yielded(t.1));
     }
     if t.0 == AWAITING {
-        return Outcome::Some(Stop::Awaiting(t.1));
+        return Some(Stop::Awaiting(t.1));
     }
     if t.0 == RETURNED {
-        return Outcome::Some(Stop::Returned(t.1));
+        return Some(Stop::Returned(t.1));
     }
     if t.0 == FAILED {
-        return Outcome::Some(Stop::Failed(t.1, t.2, t.3));
+        return Some(Stop::Failed(t.1, t.2, t.3));
     }
-    Outcome::Some(Stop::CloseIgnored)
+    Some(Stop::CloseIgnored)
 }

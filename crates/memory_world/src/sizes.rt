@@ -11,10 +11,7 @@ use memory_tables::program::{FUNCTION_WIDTH, NUMBERS_WIDTH};
 fn larger(a: usize, b: usize) -> usize
     ensures { result ≡ max a b }
 {
-    if a < b {
-        return b;
-    }
-    a
+    a.max(b)
 }
 
 // The words of a row: as many as the stack's, or the widest function's.
@@ -24,12 +21,10 @@ fn row_words(setup: &[u64]) -> usize
 {
     let n = setup[layout::FUNCTIONS] as usize;
     let mut most = setup[layout::STACK] as usize;
-    let mut i = 0;
-    while i < n {
+    for i in 0..n {
         let at = NUMBERS_WIDTH + i * FUNCTION_WIDTH;
         let regs = setup[at] as usize;
         most = larger(most, regs);
-        i += 1;
     }
     most
 }

@@ -7,7 +7,7 @@ use mathlib.Core.List.{List, [], ◌∷◌}
 use lib.ListN.{length, get_or}
 use lib.Dec.{ltb, leb}
 use borrow.Author.Tests.{leb-true, ltb-true, le-leb, lt-ltb}
-use Rattle.heap.specs.declared.value.Opt.{Opt}
+use Rattle.std.specs.Prelude.{Option, Some, None}
 use Rattle.model.specs.Lists as Lists
 use Rattle.model.specs.Lists.{each_first, each-rest}
 use Rattle.model.specs.Program.{Func, Setup, no_func, func, is_function, between, limits_ok, costs_ok, handler_ok, function_ok, hook_ok, setup_ok}
@@ -78,13 +78,13 @@ register-back [] n h = absurd h
 register-back (f ∷ fs) zero h = (omega arith, h)
 register-back (f ∷ fs) (suc n) h = let (l, r) = register-back fs n h in (omega (arith, l), r)
 
-hook-fits : (s : Setup) (h : Opt) → hook_ok s h ≡ true → HookFits h s.functions
-hook-fits s Opt.None q = tt
-hook-fits s (Opt.Some n) q = has-register s.functions n (ltb-true n (length s.functions) (and_left (is_function s n) (ltb 0 (func s n).regs) q)) (ltb-true 0 (func s n).regs (and_right (is_function s n) (ltb 0 (func s n).regs) q))
+hook-fits : (s : Setup) (h : Option ℕ) → hook_ok s h ≡ true → HookFits h s.functions
+hook-fits s None q = tt
+hook-fits s (Some n) q = has-register s.functions n (ltb-true n (length s.functions) (and_left (is_function s n) (ltb 0 (func s n).regs) q)) (ltb-true 0 (func s n).regs (and_right (is_function s n) (ltb 0 (func s n).regs) q))
 
-hook-back : (s : Setup) (h : Opt) → HookFits h s.functions → hook_ok s h ≡ true
-hook-back s Opt.None q = refl
-hook-back s (Opt.Some n) q = let (l, r) = register-back s.functions n q in λ i. lt-ltb n (length s.functions) l i && lt-ltb 0 (func s n).regs r i
+hook-back : (s : Setup) (h : Option ℕ) → HookFits h s.functions → hook_ok s h ≡ true
+hook-back s None q = refl
+hook-back s (Some n) q = let (l, r) = register-back s.functions n q in λ i. lt-ltb n (length s.functions) l i && lt-ltb 0 (func s n).regs r i
 
 -- ---- the whole list
 

@@ -10,7 +10,7 @@ use lib.ListN.{length}
 use borrow.Author.Tests.{eqb-true, eq-eqb, leb-true, le-leb, ltb-true, lt-ltb}
 use Rattle.lists.specs.Pick.{pick}
 use Rattle.heap.specs.Table.{Slot, slot}
-use Rattle.heap.specs.declared.value.Opt.{Opt}
+use Rattle.std.specs.Prelude.{Option, Some, None}
 use Rattle.model.specs.Lists.{is_nil, each, distinct}
 use Rattle.model.specs.State.{is_suspended, is_resumable, is_finished}
 use Rattle.model.specs.Program.{Setup, between}
@@ -22,7 +22,6 @@ use Rattle.model.specs.Sound.{bases_ok, frame_names, conts_lie, catches_lie, fra
 use Rattle.model.specs.WellFormed.{At, ◌∈◌, resumable, finished, Coro, Bases, NamesFunction, Continuations, CatchesLie, Waits, Saved, Queue, Ranges}
 use Rattle.model.specs.declared.machine.Frame.{Frame}
 use Rattle.model.specs.declared.machine.Stop.{Stop}
-use Rattle.model.specs.declared.machine.Outcome.{Outcome}
 use Rattle.model.proofs.Tests.{no_false, no_true, and_left, and_right, both, each-imp, or_else, unnegate}
 use Rattle.model.proofs.Places.{each-place, place-each, distinct-once, once-distinct}
 use Rattle.model.proofs.FrameRules.{nil_is, bases-exactly, names-exactly, conts-exactly, catches-exactly, body-exactly}
@@ -161,14 +160,14 @@ queue-exactly mark w q =
 
 -- ---- fuel
 
-pub fuel-exactly : (w : World) → (fuel_ok w ≡ true) ↔ ((bank : ℕ) → w.fuel.bank ≡ Opt.Some bank → w.fuel.fuel ≡ 0)
+pub fuel-exactly : (w : World) → (fuel_ok w ≡ true) ↔ ((bank : ℕ) → w.fuel.bank ≡ Some bank → w.fuel.fuel ≡ 0)
 unfolding fuel_ok
 fuel-exactly w =
-    (λ e n h. eqb-true w.fuel.fuel 0 (subst (λ (z : Opt). (is_none z || eqb w.fuel.fuel 0) ≡ true) h e), λ q. go w.fuel.bank refl q)
+    (λ e n h. eqb-true w.fuel.fuel 0 (subst (λ (z : Option ℕ). (is_none z || eqb w.fuel.fuel 0) ≡ true) h e), λ q. go w.fuel.bank refl q)
   where
-    go : (o : Opt) → w.fuel.bank ≡ o → ((bank : ℕ) → w.fuel.bank ≡ Opt.Some bank → w.fuel.fuel ≡ 0) → (is_none o || eqb w.fuel.fuel 0) ≡ true
-    go Opt.None h q = refl
-    go (Opt.Some n) h q = eq-eqb w.fuel.fuel 0 (q n h)
+    go : (o : Option ℕ) → w.fuel.bank ≡ o → ((bank : ℕ) → w.fuel.bank ≡ Some bank → w.fuel.fuel ≡ 0) → (is_none o || eqb w.fuel.fuel 0) ≡ true
+    go None h q = refl
+    go (Some n) h q = eq-eqb w.fuel.fuel 0 (q n h)
 
 -- ---- unused
 
@@ -261,23 +260,23 @@ objects-exactly xs = (
     go i t (Object.Error e f pc v) q h = (error-exactly e f pc v).1 (q.error i t e f pc v h)
     go i t (Object.Coro k r) q h = lt-ltb k.waiting (2 ^ 16) (q.waiting i t k r h)
 
-pub outcome-exactly : (o : Outcome) → (outcome_range o ≡ true) ↔ ((v f pc : ℕ) → o ≡ Outcome.Some (Stop.Failed v f pc) → (f < 2 ^ 32) × (pc < 2 ^ 32))
+pub outcome-exactly : (o : Option Stop) → (outcome_range o ≡ true) ↔ ((v f pc : ℕ) → o ≡ Some (Stop.Failed v f pc) → (f < 2 ^ 32) × (pc < 2 ^ 32))
 outcome-exactly o = (
-  λ e v f pc h. let t = subst (λ (z : Outcome). outcome_range z ≡ true) h e in
+  λ e v f pc h. let t = subst (λ (z : Option Stop). outcome_range z ≡ true) h e in
       (ltb-true f (2 ^ 32) (and_left (ltb f (2 ^ 32)) (ltb pc (2 ^ 32)) t), ltb-true pc (2 ^ 32) (and_right (ltb f (2 ^ 32)) (ltb pc (2 ^ 32)) t)),
   back o,
 )
   where
-    stop : (s : Stop) → ((v f pc : ℕ) → Outcome.Some s ≡ Outcome.Some (Stop.Failed v f pc) → (f < 2 ^ 32) × (pc < 2 ^ 32)) → stop_range s ≡ true
+    stop : (s : Stop) → ((v f pc : ℕ) → Some s ≡ Some (Stop.Failed v f pc) → (f < 2 ^ 32) × (pc < 2 ^ 32)) → stop_range s ≡ true
     stop (Stop.Yielded v) q = refl
     stop (Stop.Awaiting v) q = refl
     stop (Stop.Returned v) q = refl
     stop (Stop.Failed v f pc) q = let (a, b) = q v f pc refl in both (lt-ltb f (2 ^ 32) a) (lt-ltb pc (2 ^ 32) b)
     stop Stop.CloseIgnored q = refl
 
-    back : (o : Outcome) → ((v f pc : ℕ) → o ≡ Outcome.Some (Stop.Failed v f pc) → (f < 2 ^ 32) × (pc < 2 ^ 32)) → outcome_range o ≡ true
-    back Outcome.None q = refl
-    back (Outcome.Some s) q = stop s q
+    back : (o : Option Stop) → ((v f pc : ℕ) → o ≡ Some (Stop.Failed v f pc) → (f < 2 ^ 32) × (pc < 2 ^ 32)) → outcome_range o ≡ true
+    back None q = refl
+    back (Some s) q = stop s q
 
 pub ranges-exactly : (w : World) → (ranges_ok w ≡ true) ↔ Ranges w
 unfolding ranges_ok

@@ -13,7 +13,7 @@ use Rattle.heap.specs.Word.{nil, reference, slot_of, tag_of, top_of}
 use Rattle.heap.specs.Coding.{bits_of, of_bits}
 use Rattle.heap.specs.Table.{Slot, slot, names, get, get_in}
 use Rattle.heap.specs.declared.value.Class.{Class}
-use Rattle.heap.specs.declared.heap.Place.{Place}
+use Rattle.std.specs.Prelude.{Some, None}
 use Rattle.model.specs.Object.{Core, Rest, Object, is_filled, Coroutine, Is, as_coro}
 use Rattle.model.specs.Heap.{object_at}
 use Rattle.model.proofs.Tests.{no_false, no_true, and_left, and_right, both}
@@ -41,7 +41,7 @@ module _ (xs : List (Slot Object)) (v : ℕ) (o : Object) (f : is_filled o ≡ t
   no-empty : {A : Type 0} → Object.Empty ≡ o → A
   no-empty e = no_false (ap is_filled e ∙ f)
 
-  by_name : (t : Bool) → names Object.Empty is_filled xs v ≡ t → top_of v ≡ 1 → object_at xs (pick t (Place.At (slot_of v)) Place.Nothing) ≡ o → Points xs v o
+  by_name : (t : Bool) → names Object.Empty is_filled xs v ≡ t → top_of v ≡ 1 → object_at xs (pick t (Some (slot_of v)) None) ≡ o → Points xs v o
   unfolding pick
   by_name true t h e =
       let a = and_right (ltb (slot_of v) (length xs)) _ t in
@@ -65,12 +65,12 @@ module _ (xs : List (Slot Object)) (v : ℕ) (o : Object) (f : is_filled o ≡ t
   pub points : object_in xs v ≡ o → Points xs v o
   points e = by-class (eqb v nil) (eqb (top_of v) 1) (eqb (top_of v) 0xFFFE) (bits_of 63 (of_bits 47 (v % 2 ^ 48))) refl e
 
-  name_of : (t : Bool) → t ≡ true → (at xs (slot_of v)).object ≡ o → object_at xs (pick t (Place.At (slot_of v)) Place.Nothing) ≡ o
+  name_of : (t : Bool) → t ≡ true → (at xs (slot_of v)).object ≡ o → object_at xs (pick t (Some (slot_of v)) None) ≡ o
   unfolding pick
   name_of true t e = e
   name_of false t e = no_false t
 
-  class_of : (a b c : Bool) (z : ℕ) → a ≡ false → b ≡ true → object_at xs (pick (names Object.Empty is_filled xs v) (Place.At (slot_of v)) Place.Nothing) ≡ o
+  class_of : (a b c : Bool) (z : ℕ) → a ≡ false → b ≡ true → object_at xs (pick (names Object.Empty is_filled xs v) (Some (slot_of v)) None) ≡ o
       → object_at xs (get_in Object.Empty is_filled xs (pick a Class.Nil (pick b (Class.Ref (record { 0 = v })) (pick c (Class.Int z) Class.Opaque)))) ≡ o
   unfolding pick
   class_of true b c z p q e = no_true p

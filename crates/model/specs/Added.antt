@@ -1,9 +1,9 @@
 -- 01: "Added calls": what each does behind its gate (Gate, Calls).
-use Rattle.std.specs.Prelude.{ℕ, ◌+◌, ◌^◌, Bool, true, false, not, ◌||◌, List, [], ◌∷◌, ◌++◌, drop, leb}
+use Rattle.std.specs.Prelude.{ℕ, ◌+◌, ◌^◌, Bool, true, false, not, ◌||◌, List, [], ◌∷◌, ◌++◌, drop, leb, Option, Result, Some, None, Ok, Err}
 use Rattle.lists.specs.Pick.{pick}
 use Rattle.heap.specs.Word.{nil}
 use Rattle.heap.specs.declared.fault.Fault.{Fault}
-use Rattle.heap.specs.declared.value.Opt.{Opt}
+use Rattle.model.specs.declared.coro.Entered.{Entered}
 use Rattle.model.specs.State.{is_suspended}
 use Rattle.model.specs.Object.{Object, Coroutine, Absent, Is, with_finalized}
 use Rattle.model.specs.World.{World, After, after, and_then, with_stack, with_frames, with_finalize, with_outcome, with_fuel}
@@ -17,33 +17,30 @@ use Rattle.model.specs.declared.machine.Cont.{Cont}
 use Rattle.model.specs.declared.machine.Driver.{Driver}
 use Rattle.model.specs.declared.machine.Frame.{Frame}
 use Rattle.model.specs.declared.machine.Fuel.{Fuel}
-use Rattle.model.specs.declared.machine.Outcome.{Outcome}
-use Rattle.model.specs.declared.coro.WordOr.{WordOr}
-use Rattle.model.specs.declared.coro.Entered.{Entered}
 use Rattle.model.specs.declared.call.Answer.{Answer}
 
 abbrev pub accepted : World → After Answer
 accepted w = after w Answer.Accepted
 
 -- the word made is the answer
-abbrev pub answer_made : World → WordOr → After Answer
-answer_made w (WordOr.Word v) = after w (Answer.Word v)
-answer_made w (WordOr.Refused f) = refused w f
+abbrev pub answer_made : World → Result ℕ Fault → After Answer
+answer_made w (Ok v) = after w (Answer.Word v)
+answer_made w (Err f) = refused w f
 
 -- a frame was pushed; refused, the world is w
-abbrev pub pushed_or : World → World → WordOr → After Answer
-pushed_or w u (WordOr.Word base) = accepted u
-pushed_or w u (WordOr.Refused f) = refused w f
+abbrev pub pushed_or : World → World → Result ℕ Fault → After Answer
+pushed_or w u (Ok base) = accepted u
+pushed_or w u (Err f) = refused w f
 
 -- "Host call: an Entry frame."; "Frames made by a host call or function call have a nil closure."
 -- It takes no arguments, since put word fills registers. Neither host call nor host entry resets anything.
 unfoldable pub host_call : ℕ → World → After Answer
 host_call f w = and_then (push_frame f nil Cont.Entry w) (pushed_or w)
 
-abbrev pub host_arrive : ℕ → World → Entered → After Answer
-host_arrive v w Entered.Fresh = accepted w
-host_arrive v w (Entered.Suspended d) = accepted (coro_send d v w)
-host_arrive v w (Entered.Refused f) = refused w f
+abbrev pub host_arrive : ℕ → World → Result Entered Fault → After Answer
+host_arrive v w (Ok Entered.Fresh) = accepted w
+host_arrive v w (Ok (Entered.Suspended d)) = accepted (coro_send d v w)
+host_arrive v w (Err f) = refused w f
 
 -- "Host entry: `coro_enter` with the host driver, then the word delivered if suspended."
 unfoldable pub host_entry : ℕ → ℕ → World → After Answer
@@ -69,14 +66,14 @@ put_word r v w = accepted (put_reg r v w)
 -- "Make iterator: over a coroutine (else 1 or 2), not done, no key." It costs T.
 abbrev pub iterator_over : Coroutine → ℕ → World → After Answer
 iterator_over Absent v w = refused w (not_a w v)
-iterator_over (Is k r) v w = and_then (alloc w.setup.costs.iter (Object.Iter v false Opt.None) w) answer_made
+iterator_over (Is k r) v w = and_then (alloc w.setup.costs.iter (Object.Iter v false None) w) answer_made
 
 unfoldable pub make_iterator : ℕ → World → After Answer
 make_iterator v w = iterator_over (coro w v) v w
 
 -- "Take outcome: reads and clears it, or answers none."
 unfoldable pub take_outcome : World → After Answer
-take_outcome w = after (with_outcome Outcome.None w) (Answer.Took w.outcome)
+take_outcome w = after (with_outcome None w) (Answer.Took w.outcome)
 
 -- "Hand over: a Yielded or Awaiting coroutine not handed over before joins the cleanup queue and is marked finalized, then
 -- `set_finalizing` with the present value; others answer 1, 2 or 3."
@@ -90,13 +87,13 @@ unfoldable pub hand_over : ℕ → World → After Answer
 hand_over v w = hand_over_as (coro w v) v w
 
 -- "Grant: adds to the bank if there is one, else to fuel."
-abbrev pub reserve : Opt → Fuel → ℕ
-reserve Opt.None f = f.fuel
-reserve (Opt.Some n) f = n
+abbrev pub reserve : Option ℕ → Fuel → ℕ
+reserve None f = f.fuel
+reserve (Some n) f = n
 
-abbrev pub refuel : Opt → ℕ → Fuel → Fuel
-refuel Opt.None n f = fuel_of n f.bank f.ready
-refuel (Opt.Some b) n f = fuel_of f.fuel (Opt.Some n) f.ready
+abbrev pub refuel : Option ℕ → ℕ → Fuel → Fuel
+refuel None n f = fuel_of n f.bank f.ready
+refuel (Some b) n f = fuel_of f.fuel (Some n) f.ready
 
 abbrev pub granted : ℕ → World → ℕ
 granted n w = reserve w.fuel.bank w.fuel + n

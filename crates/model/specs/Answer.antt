@@ -1,12 +1,11 @@
 -- 01: the number and word of an answer, its Step, and the queue words that it took off.
-use Rattle.std.specs.Prelude.{ℕ}
+use Rattle.std.specs.Prelude.{ℕ, Option as RustOption, Some, None}
 use Rattle.std.proofs.Math.Option.{Option, none, some}
 use Rattle.heap.specs.Word.{nil}
 use Rattle.heap.specs.Fault as Faults
 use Rattle.heap.specs.declared.fault.Fault.{Fault}
 use Rattle.model.specs.Machine.{or_nil}
 use Rattle.model.specs.declared.machine.Stop.{Stop}
-use Rattle.model.specs.declared.machine.Outcome.{Outcome}
 use Rattle.model.specs.declared.exec.Step.{Step}
 use Rattle.model.specs.declared.call.Answer.{Answer}
 
@@ -44,9 +43,9 @@ stop_word (Stop.Returned v) = v
 stop_word (Stop.Failed v f pc) = v
 stop_word Stop.CloseIgnored = 0
 
-abbrev pub outcome_word : Outcome → ℕ
-outcome_word Outcome.None = 0
-outcome_word (Outcome.Some s) = stop_word s
+abbrev pub outcome_word : RustOption Stop → ℕ
+outcome_word None = 0
+outcome_word (Some s) = stop_word s
 
 -- 01: "A refused answer's word is 0, except for 17 .. an accepted call with no word of its own answers 0."
 abbrev pub word_of : Answer → ℕ

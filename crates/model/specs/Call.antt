@@ -1,9 +1,8 @@
 -- The calls, and the operands that their types can hold.
-use Rattle.std.specs.Prelude.{ℕ, ◌^◌, ◌≡◌, Bool, true, ◌&&◌, List, [], ◌∷◌, ltb}
+use Rattle.std.specs.Prelude.{ℕ, ◌^◌, ◌≡◌, Bool, true, ◌&&◌, List, [], ◌∷◌, ltb, Option, Some, None}
 use Rattle.heap.specs.Fault.{word_of}
 use Rattle.model.specs.Lists.{each}
 use Rattle.model.specs.Program.{Setup}
-use Rattle.model.specs.declared.call.OptPc.{OptPc}
 use Rattle.model.specs.declared.call.Op.{Op}
 
 -- registers have 16 bits, argument counts 8, pc and function numbers 32, words 64
@@ -22,9 +21,9 @@ is_pc pc = ltb pc (2 ^ 32)
 abbrev pub is_word : ℕ → Bool
 is_word v = ltb v (2 ^ 64)
 
-abbrev pub opt_pc : OptPc → Bool
-opt_pc OptPc.None = true
-opt_pc (OptPc.Some pc) = is_pc pc
+abbrev pub opt_pc : Option ℕ → Bool
+opt_pc None = true
+opt_pc (Some pc) = is_pc pc
 
 -- every operand is a value of its type in `Op`; a continuation's register lies in the frame, or the gate refuses it
 unfoldable pub typed : Op → Bool

@@ -1,5 +1,5 @@
 -- THE TABLE of the calls: which pc and operands a call has, and what it does behind its gate.
-use Rattle.std.specs.Prelude.{ℕ, Bool, true, ◌&&◌, [], ◌∷◌}
+use Rattle.std.specs.Prelude.{ℕ, Bool, true, ◌&&◌, [], ◌∷◌, Option}
 use Rattle.heap.specs.declared.fault.Fault.{Fault}
 use Rattle.model.specs.Program.{is_function}
 use Rattle.model.specs.World.{World, After, and_then}
@@ -9,7 +9,6 @@ use Rattle.model.specs.Exec.{coro_new, coro_new_indirect, spawn, yield, yield_kv
 use Rattle.model.specs.Gate.{in_frame, all_in, window_in}
 use Rattle.model.specs.Added.{answer_made, host_call, host_entry, cont_allowed, function_call, put_word, make_iterator, take_outcome, hand_over, stop_run}
 use Rattle.model.specs.declared.exec.Step.{Step}
-use Rattle.model.specs.declared.call.OptPc.{OptPc}
 use Rattle.model.specs.declared.call.Op.{Op}
 use Rattle.model.specs.declared.call.Answer.{Answer}
 
@@ -21,7 +20,7 @@ pub data Row : Type 0 where
   -- host call, host entry
   OnHost : (World → Bool) → (World → After Answer) → Row
   -- unwind: the fault, and the pc to store
-  Unwinds : Fault → OptPc → Row
+  Unwinds : Fault → Option ℕ → Row
   -- grant: the sum may be too large
   Grants : ℕ → Row
   -- look: nothing is done

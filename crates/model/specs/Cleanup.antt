@@ -1,5 +1,5 @@
 -- coro.rs: spawn_task, start_finalizer, charge_slow; exec.rs: charge.
-use Rattle.std.specs.Prelude.{ℕ, suc, Bool, true, false, not, ◌&&◌, List, [], ◌∷◌, ◌++◌, eqb}
+use Rattle.std.specs.Prelude.{ℕ, suc, Bool, true, false, not, ◌&&◌, List, [], ◌∷◌, ◌++◌, eqb, Option, Result, Some, None, Ok, Err}
 use Rattle.lists.specs.Pick.{pick}
 use Rattle.heap.specs.Word.{nil}
 use Rattle.heap.specs.declared.fault.Fault.{Fault}
@@ -12,21 +12,19 @@ use Rattle.model.specs.Fuel.{unbank, arm_close, set_finalizing, spend}
 use Rattle.model.specs.Coro.{coro_enter}
 use Rattle.model.specs.declared.machine.Driver.{Driver}
 use Rattle.model.specs.declared.machine.Charge.{Charge}
-use Rattle.model.specs.declared.coro.WordOr.{WordOr}
 use Rattle.model.specs.declared.coro.Entered.{Entered}
 use Rattle.model.specs.declared.coro.Started.{Started}
-use Rattle.model.specs.declared.call.OptPc.{OptPc}
 
 -- ---- tasks
 
-abbrev pub join_ready : Coroutine → ℕ → World → After WordOr
+abbrev pub join_ready : Coroutine → ℕ → World → After (Result ℕ Fault)
 join_ready Absent v w = refuse w Fault.TypeError
 join_ready (Is k r) v w =
-    pick (not r.task && is_resumable k.state) (after (set_coro v k (with_task true r) (with_ready (w.ready ++ (v ∷ [])) w)) (WordOr.Word v))
-    (after w (WordOr.Word v))
+    pick (not r.task && is_resumable k.state) (after (set_coro v k (with_task true r) (with_ready (w.ready ++ (v ∷ [])) w)) (Ok v))
+    (after w (Ok v))
 
 -- coro.rs: spawn_task. 01: "gives 2 for both"
-unfoldable pub spawn_task : ℕ → World → After WordOr
+unfoldable pub spawn_task : ℕ → World → After (Result ℕ Fault)
 spawn_task v w = join_ready (coro w v) v w
 
 -- ---- cleanups
@@ -35,10 +33,9 @@ abbrev pub coro_suspended : Coroutine → Bool
 coro_suspended Absent = false
 coro_suspended (Is k r) = is_suspended k.state
 
-abbrev pub is_entered : Entered → Bool
-is_entered Entered.Fresh = true
-is_entered (Entered.Suspended d) = true
-is_entered (Entered.Refused f) = false
+abbrev pub is_entered : Result Entered Fault → Bool
+is_entered (Ok a) = true
+is_entered (Err f) = false
 
 -- co.closing = true, co.signal = signal
 abbrev pub close : ℕ → Rest → Rest
@@ -70,14 +67,14 @@ abbrev pub charge_or : After Started → After Charge
 charge_or s = pick s.answer.entered (after s.world (Charge.Close s.answer.taken)) (charge_done s.answer.taken s.world)
 
 -- 01: "Where charge_slow has fuel, a pc and cleanups ready, it stores pc first, even if no cleanup then starts."
-abbrev pub charge_at : OptPc → World → After Charge
-charge_at OptPc.None w = charge_done 0 w
-charge_at (OptPc.Some pc) w = pick w.fuel.ready (charge_or (start_finalizer (store_pc pc w))) (charge_done 0 w)
+abbrev pub charge_at : Option ℕ → World → After Charge
+charge_at None w = charge_done 0 w
+charge_at (Some pc) w = pick w.fuel.ready (charge_or (start_finalizer (store_pc pc w))) (charge_done 0 w)
 
 -- coro.rs: charge_slow; without a pc no cleanup starts. 01, fault 10: "bank and fuel both used up"
-unfoldable pub charge_slow : OptPc → World → After Charge
+unfoldable pub charge_slow : Option ℕ → World → After Charge
 charge_slow pc w = pick (eqb (unbank w).fuel.fuel 0) (after (unbank w) Charge.Spent) (charge_at pc (unbank w))
 
 -- exec.rs: charge, one unit of fuel
-unfoldable pub charge : OptPc → World → After Charge
+unfoldable pub charge : Option ℕ → World → After Charge
 charge pc w = pick (eqb w.fuel.fuel 0) (charge_slow pc w) (after (spend w) (Charge.Done 0))

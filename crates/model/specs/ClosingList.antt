@@ -1,6 +1,5 @@
 -- 01: "Closing list", each of its sentences by itself: no rule of the machine is cited. The test of a set-up is this (`Exactly.antt`).
-use Rattle.std.specs.Prelude.{ℕ, zero, suc, ◌^◌, ◌≤◌, ◌<◌, List, [], ◌∷◌, length}
-use Rattle.heap.specs.declared.value.Opt.{Opt}
+use Rattle.std.specs.Prelude.{ℕ, zero, suc, ◌^◌, ◌≤◌, ◌<◌, List, [], ◌∷◌, length, Option, Some, None}
 use Rattle.model.specs.Program.{Func, Setup}
 use Rattle.model.specs.declared.program.Handler.{Handler}
 
@@ -32,9 +31,9 @@ HasRegister (f ∷ fs) zero = 1 ≤ f.regs
 HasRegister (f ∷ fs) (suc n) = HasRegister fs n
 
 -- "Hook: none, or a function with a register."
-abbrev pub HookFits : Opt → List Func → Type 0
-HookFits Opt.None fs = Unit {0}
-HookFits (Opt.Some n) fs = HasRegister fs n
+abbrev pub HookFits : Option ℕ → List Func → Type 0
+HookFits None fs = Unit {0}
+HookFits (Some n) fs = HasRegister fs n
 
 -- "Depth 1-128, stack 1-1,024 words, rows 1-64, slots 1-4,096 and not fewer than the functions, functions 1-32 .. Costs 0-65,536. Memory
 -- limit: any 64-bit number."

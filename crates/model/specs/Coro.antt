@@ -1,5 +1,5 @@
 -- coro.rs: impl Machine, in its order, up to a coroutine's end.
-use Rattle.std.specs.Prelude.{ℕ, ◌+◌, ◌-◌, ◌*◌, ◌%◌, ◌^◌, max, Bool, true, false, not, ◌&&◌, ◌||◌, List, [], ◌∷◌, ◌++◌, map, negsuc, length, take, drop, replicate, eqb, ltb, leb}
+use Rattle.std.specs.Prelude.{ℕ, ◌+◌, ◌-◌, ◌*◌, ◌%◌, ◌^◌, max, Bool, true, false, not, ◌&&◌, ◌||◌, List, [], ◌∷◌, ◌++◌, map, negsuc, length, take, drop, replicate, eqb, ltb, leb, Option, Result, Some, None, Ok, Err}
 use Rattle.lists.specs.Pick.{pick}
 use Rattle.heap.specs.Word.{nil}
 use Rattle.heap.specs.Coding.{bits_of}
@@ -18,13 +18,8 @@ use Rattle.model.specs.Fuel.{set_finalizing}
 use Rattle.model.specs.declared.machine.Active.{Active}
 use Rattle.model.specs.declared.machine.Driver.{Driver}
 use Rattle.model.specs.declared.coro.Event.{Event}
-use Rattle.model.specs.declared.coro.WordOr.{WordOr}
-use Rattle.model.specs.declared.coro.Stated.{Stated}
 use Rattle.model.specs.declared.coro.Entered.{Entered}
-use Rattle.model.specs.declared.coro.Keys.{Keys}
-use Rattle.model.specs.declared.coro.Suspension.{Suspension}
 use Rattle.model.specs.declared.machine.Cont.{Cont}
-use Rattle.model.specs.declared.machine.Outcome.{Outcome}
 use Rattle.model.specs.declared.machine.Stop.{Stop}
 
 -- ---- coro_create
@@ -42,7 +37,7 @@ new_rest seq row n = record { closing = false; finalized = false; task = false; 
 
 -- coro.rs: coro_create. 01: "Creation tests 8 times registers + C + F against the limit (9), then 14, then advances the
 -- 64-bit sequence number, wrapping, then charges 8 times registers + A + F (9; the number has moved)."
-unfoldable pub coro_create : ℕ → ℕ → List ℕ → World → After WordOr
+unfoldable pub coro_create : ℕ → ℕ → List ℕ → World → After (Result ℕ Fault)
 coro_create f closure args w =
     let n = (func w.setup f).regs in
     pick (not (fits w (8 * n + w.setup.costs.coro + w.setup.costs.frame))) (refuse w Fault.OutOfMemory)
@@ -52,11 +47,11 @@ coro_create f closure args w =
     (with_seq ((w.seq + 1) % 2 ^ 64) w)))
 
 -- coro.rs: coro_state
-abbrev pub state_as : Coroutine → Fault → Stated
-state_as Absent f = Stated.Refused f
-state_as (Is k r) f = Stated.In k.state
+abbrev pub state_as : Coroutine → Fault → Result CoroState Fault
+state_as Absent f = Err f
+state_as (Is k r) f = Ok k.state
 
-abbrev pub coro_state : World → ℕ → Stated
+abbrev pub coro_state : World → ℕ → Result CoroState Fault
 coro_state w v = state_as (coro w v) (not_a w v)
 
 -- ---- coro_enter
@@ -86,15 +81,15 @@ overflows k w =
     ltb w.setup.limits.depth (length w.frames + length k.frames) || ltb w.setup.limits.stack (length w.stack + length k.regs)
 
 -- 01: "not a coroutine (1 or 2); not Created, Yielded or Awaiting (3)"
-abbrev pub enter_as : Coroutine → ℕ → Driver → World → After Entered
-enter_as Absent v d w = after w (Entered.Refused (not_a w v))
+abbrev pub enter_as : Coroutine → ℕ → Driver → World → After (Result Entered Fault)
+enter_as Absent v d w = after w (Err (not_a w v))
 enter_as (Is k r) v d w =
-    pick (not (is_resumable k.state) || is_nil k.frames) (after w (Entered.Refused Fault.InvalidCoroState))
-    (pick (overflows k w) (after w (Entered.Refused Fault.StackOverflow))
-    (after (entered v d k r w) (pick (is_created k.state) Entered.Fresh (Entered.Suspended k.waiting))))
+    pick (not (is_resumable k.state) || is_nil k.frames) (after w (Err Fault.InvalidCoroState))
+    (pick (overflows k w) (after w (Err Fault.StackOverflow))
+    (after (entered v d k r w) (pick (is_created k.state) (Ok Entered.Fresh) (Ok (Entered.Suspended k.waiting)))))
 
 -- coro.rs: coro_enter
-unfoldable pub coro_enter : ℕ → Driver → World → After Entered
+unfoldable pub coro_enter : ℕ → Driver → World → After (Result Entered Fault)
 coro_enter v d w = enter_as (coro w v) v d w
 
 -- coro.rs: coro_send
@@ -113,9 +108,9 @@ saved state dst floor w =
 abbrev pub growth : World → Core → Rest → ℕ
 growth w k r = (length k.regs - r.maxregs) * 8 + (length k.frames - r.maxframes) * w.setup.costs.frame
 
-abbrev pub set_keys : Keys → Rest → Rest
-set_keys Keys.Keep r = r
-set_keys (Keys.Set key largest) r = with_key key (with_largest largest r)
+abbrev pub set_keys : Option (ℕ × ℕ) → Rest → Rest
+set_keys None r = r
+set_keys (Some (key, largest)) r = with_key key (with_largest largest r)
 
 -- 01: "A yield while closing clears closing .. an Await leaves closing set."
 abbrev pub unclose : CoroState → Rest → Rest
@@ -124,7 +119,7 @@ unclose s r = pick (not (is_awaiting s) && r.closing) (with_closing false (with_
 abbrev pub event_of : CoroState → ℕ → Rest → Event
 event_of s payload r = pick (is_awaiting s) (Event.Awaiting payload) (pick r.closing Event.CloseIgnored (Event.Yielded payload r.key))
 
-abbrev pub put_to_sleep : Active → List Active → Core → ℕ → Keys → Rest → World → World
+abbrev pub put_to_sleep : Active → List Active → Core → ℕ → Option (ℕ × ℕ) → Rest → World → World
 put_to_sleep a chain k payload key r w =
     set_coro a.coro k (unclose k.state (set_keys key (with_payload payload (sized k r))))
     (with_chain chain
@@ -132,20 +127,20 @@ put_to_sleep a chain k payload key r w =
     (with_stack (take (base_at a.floor w.frames) w.stack)
     (with_used (sat_add w.used (growth w k r)) w))))
 
-abbrev pub suspend_coroutine : Coroutine → Active → List Active → Core → ℕ → Keys → World → After Suspension
-suspend_coroutine Absent a chain k payload key w = after w (Suspension.Refused Fault.TypeError)
+abbrev pub suspend_coroutine : Coroutine → Active → List Active → Core → ℕ → Option (ℕ × ℕ) → World → After (Result (Driver × Event) Fault)
+suspend_coroutine Absent a chain k payload key w = after w (Err Fault.TypeError)
 suspend_coroutine (Is _ r) a chain k payload key w =
-    pick (not (fits w (growth w k r))) (after w (Suspension.Refused Fault.OutOfMemory))
-    (after (put_to_sleep a chain k payload key r w) (Suspension.Done a.driver (event_of k.state payload (set_keys key r))))
+    pick (not (fits w (growth w k r))) (after w (Err Fault.OutOfMemory))
+    (after (put_to_sleep a chain k payload key r w) (Ok (a.driver, event_of k.state payload (set_keys key r))))
 
-abbrev pub suspend_innermost : List Active → CoroState → ℕ → ℕ → Keys → World → After Suspension
-suspend_innermost [] state dst payload key w = after w (Suspension.Refused Fault.CannotSuspend)
+abbrev pub suspend_innermost : List Active → CoroState → ℕ → ℕ → Option (ℕ × ℕ) → World → After (Result (Driver × Event) Fault)
+suspend_innermost [] state dst payload key w = after w (Err Fault.CannotSuspend)
 suspend_innermost (a ∷ chain) state dst payload key w =
-    pick (leb (length w.frames) a.floor) (after w (Suspension.Refused Fault.CannotSuspend))
+    pick (leb (length w.frames) a.floor) (after w (Err Fault.CannotSuspend))
     (suspend_coroutine (coro w a.coro) a chain (saved state dst a.floor w) payload key w)
 
 -- coro.rs: coro_suspend. The Rust charges a growth above 0 only; a growth of 0 fits.
-unfoldable pub coro_suspend : CoroState → ℕ → ℕ → Keys → World → After Suspension
+unfoldable pub coro_suspend : CoroState → ℕ → ℕ → Option (ℕ × ℕ) → World → After (Result (Driver × Event) Fault)
 coro_suspend state dst payload key w = suspend_innermost w.chain state dst payload key w
 
 -- ---- deliver
@@ -155,18 +150,18 @@ outcome_of (Event.Yielded payload key) = Stop.Yielded payload
 outcome_of (Event.Awaiting payload) = Stop.Awaiting payload
 outcome_of Event.CloseIgnored = Stop.CloseIgnored
 
--- coro.rs: deliver. None is the Rust's Ok(()). 01: "Iterator driver: iterator key, val register, then has = 1 and pc step; an Await
+-- coro.rs: deliver. 01: "Iterator driver: iterator key, val register, then has = 1 and pc step; an Await
 -- there is 2, after suspending. Host driver: the outcome. Cleanup driver: finalizing ends. A yield while closing .. answers 6 to a
 -- Resume or iterator driver"
-unfoldable pub deliver : Driver → Event → World → After Fault
-deliver (Driver.Resume dst) (Event.Yielded payload key) w = after (coro_send dst payload w) Fault.None
-deliver (Driver.Resume dst) (Event.Awaiting payload) w = after (coro_send dst payload w) Fault.None
-deliver (Driver.Resume dst) Event.CloseIgnored w = after w Fault.CloseIgnored
-deliver (Driver.Iter has val iter) (Event.Yielded payload key) w = after (coro_send has 1 (put_reg val payload (set_key iter key w))) Fault.None
-deliver (Driver.Iter has val iter) (Event.Awaiting payload) w = after w Fault.TypeError
-deliver (Driver.Iter has val iter) Event.CloseIgnored w = after w Fault.CloseIgnored
-deliver Driver.Host event w = after (with_outcome (Outcome.Some (outcome_of event)) w) Fault.None
-deliver Driver.Finalize event w = after (set_finalizing false w) Fault.None
+unfoldable pub deliver : Driver → Event → World → After (Result Unit Fault)
+deliver (Driver.Resume dst) (Event.Yielded payload key) w = after (coro_send dst payload w) (Ok tt)
+deliver (Driver.Resume dst) (Event.Awaiting payload) w = after (coro_send dst payload w) (Ok tt)
+deliver (Driver.Resume dst) Event.CloseIgnored w = after w (Err Fault.CloseIgnored)
+deliver (Driver.Iter has val iter) (Event.Yielded payload key) w = after (coro_send has 1 (put_reg val payload (set_key iter key w))) (Ok tt)
+deliver (Driver.Iter has val iter) (Event.Awaiting payload) w = after w (Err Fault.TypeError)
+deliver (Driver.Iter has val iter) Event.CloseIgnored w = after w (Err Fault.CloseIgnored)
+deliver Driver.Host event w = after (with_outcome (Some (outcome_of event)) w) (Ok tt)
+deliver Driver.Finalize event w = after (set_finalizing false w) (Ok tt)
 
 -- ---- the end of a coroutine
 
@@ -181,7 +176,7 @@ finish_coroutine v s result w = change_coro v (in_state s) (ended result) w
 abbrev pub deliver_return : Driver → ℕ → World → World
 deliver_return (Driver.Resume dst) value w = coro_send dst value w
 deliver_return (Driver.Iter has val iter) value w = coro_send has 0 (set_done iter w)
-deliver_return Driver.Host value w = with_outcome (Outcome.Some (Stop.Returned value)) w
+deliver_return Driver.Host value w = with_outcome (Some (Stop.Returned value)) w
 deliver_return Driver.Finalize value w = set_finalizing false w
 
 -- coro.rs: coro_returned
@@ -200,7 +195,7 @@ closed_by (Is k r) value = r.closing && eqb value r.signal
 abbrev pub fail_to : Driver → Stop → World → After Bool
 fail_to (Driver.Resume dst) s w = after w false
 fail_to (Driver.Iter has val iter) s w = after w false
-fail_to Driver.Host s w = after (with_outcome (Outcome.Some s) w) true
+fail_to Driver.Host s w = after (with_outcome (Some s) w) true
 fail_to Driver.Finalize s w = after (set_finalizing false w) true
 
 -- coro.rs: coro_escaped, whether the unwinding stops here; func and pc are where the word was raised
@@ -220,4 +215,4 @@ fail_all [] w = w
 fail_all (a ∷ chain) w = fail_all chain (finish_coroutine a.coro CoroState.Failed nil w)
 
 unfoldable pub abort_coros : World → World
-abort_coros w = with_outcome Outcome.None (set_finalizing false (with_chain [] (fail_all w.chain w)))
+abort_coros w = with_outcome None (set_finalizing false (with_chain [] (fail_all w.chain w)))

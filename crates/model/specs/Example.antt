@@ -1,6 +1,5 @@
 -- A set-up for examples, and runs of it.
-use Rattle.std.specs.Prelude.{ℕ, List, [], ◌∷◌}
-use Rattle.heap.specs.declared.value.Opt.{Opt}
+use Rattle.std.specs.Prelude.{ℕ, List, [], ◌∷◌, None}
 use Rattle.model.specs.Program.{Func, Setup}
 use Rattle.model.specs.World.{World, fresh}
 use Rattle.model.specs.Answer.{number_of}
@@ -23,7 +22,7 @@ example =
     record {
       limits = record { depth = 4; stack = 10; rows = 4; slots = 16; memory = 4096 };
       costs = record { frame = 32; coro = 104; object = 160; int = 56; error = 56; iter = 112 };
-      hook = Opt.None;
+      hook = None;
       functions = plain 1 ∷ plain 2 ∷ plain 4 ∷ plain 6 ∷ plain 7 ∷ catching ∷ [];
     }
 

@@ -1,8 +1,7 @@
 -- 01: "P1 to P8 (depth limit 4, stack limit 10)", by computation.
-use Rattle.std.specs.Prelude.{ℕ, ◌-◌, ◌^◌, ◌≡◌, refl, Bool, true, false, List, [], ◌∷◌, ◌++◌, pos, negsuc}
+use Rattle.std.specs.Prelude.{ℕ, ◌-◌, ◌^◌, ◌≡◌, refl, Bool, true, false, List, [], ◌∷◌, ◌++◌, pos, negsuc, Some, None}
 use Rattle.heap.specs.Word.{int_word}
 use Rattle.heap.specs.declared.fault.Fault.{Fault}
-use Rattle.heap.specs.declared.value.Opt.{Opt}
 use Rattle.model.specs.Object.{Object}
 use Rattle.model.specs.Heap.{object, coro}
 use Rattle.model.specs.Sound.{marked}
@@ -12,7 +11,6 @@ use Rattle.model.specs.Example.{c, d, holding, reached, number, look}
 use Rattle.model.specs.Compute.{computed}
 use Rattle.model.specs.declared.machine.Cont.{Cont}
 use Rattle.heap.specs.declared.heap.ResultKind.{ResultKind}
-use Rattle.model.specs.declared.call.OptPc.{OptPc}
 use Rattle.model.specs.declared.call.Op.{Op}
 
 -- ---- runs of the example
@@ -38,7 +36,7 @@ integer r n = Op.FunctionCall 6 0 (Cont.Dyn r) ∷ Op.Finish ResultKind.I64 n �
 abbrev pub closing : List Op
 closing =
     holding 3 5
-    ++ (Op.Resume 2 1 0 1 ∷ Op.Yield 8 0 0 ∷ Op.PutWord 2 9 ∷ Op.CoroClose 3 1 0 2 ∷ Op.Unwind (Fault.Throw 9) OptPc.None ∷ [])
+    ++ (Op.Resume 2 1 0 1 ∷ Op.Yield 8 0 0 ∷ Op.PutWord 2 9 ∷ Op.CoroClose 3 1 0 2 ∷ Op.Unwind (Fault.Throw 9) None ∷ [])
 
 abbrev pub is_closing : List Op → Bool
 is_closing cs = marked (λ r. r.closing) (coro (reached cs) c)
@@ -74,10 +72,10 @@ pub record P1-to-P8 : Type 0 where
   pub yield-clears : is_closing (closing ++ (Op.Yield 60 0 0 ∷ [])) ≡ false
   pub await-stays : is_closing (closing ++ (Op.Await 60 0 0 ∷ [])) ≡ true
   -- "Fuel 0, bank 3, ready, queue of one Returned: done, fuel 2, no bank, one word taken off."
-  pub banked : (reached handed_over).fuel ≡ record { fuel = 0; bank = Opt.Some 3; ready = true }
+  pub banked : (reached handed_over).fuel ≡ record { fuel = 0; bank = Some 3; ready = true }
   pub queued : (reached handed_over).finalize ≡ c ∷ []
   pub done : number handed_over (Op.CoroCurrent 5 0) ≡ 0
-  pub spent : (tested (reached handed_over) (Op.CoroCurrent 5 0)).world.fuel ≡ record { fuel = 2; bank = Opt.None; ready = false }
+  pub spent : (tested (reached handed_over) (Op.CoroCurrent 5 0)).world.fuel ≡ record { fuel = 2; bank = None; ready = false }
   pub taken : taken_off (tested (reached handed_over) (Op.CoroCurrent 5 0)).answer ≡ 1
 
 pub p1-to-p8 : P1-to-P8

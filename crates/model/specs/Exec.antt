@@ -1,13 +1,13 @@
 -- coro.rs: exec, its arms in order; auto_key, indirect, iter_next. Each is what the instruction does after its charge.
-use Rattle.std.specs.Prelude.{ℕ, ◌+◌, not, ◌||◌, List, [], ◌∷◌, negsuc, take, drop, set, eqb}
+use Rattle.std.specs.Prelude.{ℕ, ◌+◌, not, ◌||◌, List, [], ◌∷◌, negsuc, take, drop, set, eqb, Option, Result, Some, None, Ok, Err}
 use Rattle.lists.specs.Pick.{pick}
 use Rattle.heap.specs.Word.{nil}
 use Rattle.heap.specs.Coding.{bits_of}
 use Rattle.heap.specs.Int.{next_key, less_bits}
 use Rattle.heap.specs.Object.{code_of}
 use Rattle.heap.specs.declared.fault.Fault.{Fault}
-use Rattle.heap.specs.declared.value.Opt.{Opt}
-use Rattle.heap.specs.declared.int.Exact.{Exact}
+use Rattle.model.specs.declared.coro.Entered.{Entered}
+use Rattle.model.specs.declared.coro.Event.{Event}
 use Rattle.heap.specs.declared.object.CoroState.{CoroState}
 use Rattle.model.specs.State.{is_created, is_awaiting, is_returned}
 use Rattle.model.specs.Program.{func, is_function}
@@ -17,19 +17,12 @@ use Rattle.model.specs.Frames.{top_base, reg, put_reg, store_pc}
 use Rattle.model.specs.Heap.{object, coro, not_a, change_coro, set_done, refuse, encode_int, dyn_int}
 use Rattle.model.specs.Coro.{coro_create, coro_state, coro_enter, coro_send, coro_suspend, deliver, finish_coroutine}
 use Rattle.model.specs.Cleanup.{close, charge}
-use Rattle.model.specs.Machine.{push_frame, is_ok}
+use Rattle.model.specs.Machine.{push_frame}
 use Rattle.model.specs.declared.machine.Cont.{Cont}
 use Rattle.model.specs.declared.machine.Driver.{Driver}
 use Rattle.model.specs.declared.machine.Active.{Active}
 use Rattle.model.specs.declared.machine.Charge.{Charge}
-use Rattle.model.specs.declared.coro.WordOr.{WordOr}
-use Rattle.model.specs.declared.coro.Stated.{Stated}
-use Rattle.model.specs.declared.coro.Entered.{Entered}
-use Rattle.model.specs.declared.coro.Keys.{Keys}
-use Rattle.model.specs.declared.coro.AutoKey.{AutoKey}
-use Rattle.model.specs.declared.coro.Suspension.{Suspension}
 use Rattle.model.specs.declared.exec.Step.{Step}
-use Rattle.model.specs.declared.call.OptPc.{OptPc}
 
 abbrev pub fault : World → Fault → After Step
 fault w f = after w (Step.Fault f)
@@ -39,9 +32,9 @@ abbrev pub put : ℕ → ℕ → World → After Step
 put dst v w = after (put_reg dst v w) Step.Next
 
 -- r!(dst) = t!(made); Step::Next
-abbrev pub put_made : ℕ → World → WordOr → After Step
-put_made dst w (WordOr.Word v) = put dst v w
-put_made dst w (WordOr.Refused f) = fault w f
+abbrev pub put_made : ℕ → World → Result ℕ Fault → After Step
+put_made dst w (Ok v) = put dst v w
+put_made dst w (Err f) = fault w f
 
 -- ---- CoroNew, CoroNewIndirect
 
@@ -53,7 +46,7 @@ window dst argc w = take argc (drop (top_base w.frames + dst + 1) w.stack)
 unfoldable pub coro_new : ℕ → ℕ → ℕ → World → After Step
 coro_new dst f argc w = and_then (coro_create f nil (window dst argc w) w) (put_made dst)
 
-abbrev pub indirect_to : Object → ℕ → ℕ → ℕ → World → After WordOr
+abbrev pub indirect_to : Object → ℕ → ℕ → ℕ → World → After (Result ℕ Fault)
 indirect_to Object.Empty v dst argc w = refuse w (not_a w v)
 indirect_to (Object.Func f) v dst argc w =
     pick (not (is_function w.setup f)) (refuse w Fault.TypeError)
@@ -65,7 +58,7 @@ indirect_to (Object.Error e f p x) v dst argc w = refuse w (not_a w v)
 indirect_to (Object.Coro k r) v dst argc w = refuse w (not_a w v)
 
 -- coro.rs: indirect, a coroutine of the function that a register holds
-unfoldable pub indirect : ℕ → ℕ → ℕ → World → After WordOr
+unfoldable pub indirect : ℕ → ℕ → ℕ → World → After (Result ℕ Fault)
 indirect dst callee argc w = indirect_to (object w (reg w callee)) (reg w callee) dst argc w
 
 -- coro.rs: exec, CoroNewIndirect
@@ -75,9 +68,9 @@ coro_new_indirect dst callee argc w = and_then (indirect dst callee argc w) (put
 -- ---- Spawn
 
 -- the hook's frame stands over w, with the coroutine c in its first register; refused, w is as it was: pc is not stored either
-abbrev pub hooked : World → ℕ → World → WordOr → After Step
-hooked w c u (WordOr.Word base) = after (with_stack (set u.stack base c) u) Step.Frame
-hooked w c u (WordOr.Refused f) = fault w f
+abbrev pub hooked : World → ℕ → World → Result ℕ Fault → After Step
+hooked w c u (Ok base) = after (with_stack (set u.stack base c) u) Step.Frame
+hooked w c u (Err f) = fault w f
 
 -- Spawn's second unit, taken for the call of the hook; c is the coroutine's word
 abbrev pub call_hook : ℕ → ℕ → ℕ → ℕ → World → Charge → After Step
@@ -85,14 +78,14 @@ call_hook hook pc dst c w (Charge.Done n) = and_then (push_frame hook nil (Cont.
 call_hook hook pc dst c w Charge.Spent = fault w Fault.OutOfFuel
 call_hook hook pc dst c w (Charge.Close n) = and_then (push_frame hook nil (Cont.Value dst) (store_pc pc w)) (hooked w c)
 
-abbrev pub spawn_made : ℕ → ℕ → ℕ → World → WordOr → After Step
-spawn_made hook pc dst w (WordOr.Word c) = and_then (charge OptPc.None w) (call_hook hook pc dst c)
-spawn_made hook pc dst w (WordOr.Refused f) = fault w f
+abbrev pub spawn_made : ℕ → ℕ → ℕ → World → Result ℕ Fault → After Step
+spawn_made hook pc dst w (Ok c) = and_then (charge None w) (call_hook hook pc dst c)
+spawn_made hook pc dst w (Err f) = fault w f
 
 -- 01, fault 8: "Spawn without a hook"
-abbrev pub spawn_with : Opt → ℕ → ℕ → ℕ → ℕ → World → After Step
-spawn_with Opt.None pc dst callee argc w = fault w Fault.NoScheduler
-spawn_with (Opt.Some hook) pc dst callee argc w = and_then (indirect dst callee argc w) (spawn_made hook pc dst)
+abbrev pub spawn_with : Option ℕ → ℕ → ℕ → ℕ → ℕ → World → After Step
+spawn_with None pc dst callee argc w = fault w Fault.NoScheduler
+spawn_with (Some hook) pc dst callee argc w = and_then (indirect dst callee argc w) (spawn_made hook pc dst)
 
 -- coro.rs: exec, Spawn
 unfoldable pub spawn : ℕ → ℕ → ℕ → ℕ → World → After Step
@@ -100,15 +93,16 @@ spawn pc dst callee argc w = spawn_with w.setup.hook pc dst callee argc w
 
 -- ---- Yield, YieldKv, Await
 
-abbrev pub delivered : World → Fault → After Step
-delivered w f = pick (is_ok f) (after w Step.Frame) (after w (Step.Unwind f))
+abbrev pub delivered : World → Result Unit Fault → After Step
+delivered w (Ok u) = after w Step.Frame
+delivered w (Err f) = after w (Step.Unwind f)
 
-abbrev pub deliver_all : World → Suspension → After Step
-deliver_all w (Suspension.Done d e) = and_then (deliver d e w) delivered
-deliver_all w (Suspension.Refused f) = fault w f
+abbrev pub deliver_all : World → Result (Driver × Event) Fault → After Step
+deliver_all w (Ok (d, e)) = and_then (deliver d e w) delivered
+deliver_all w (Err f) = fault w f
 
 -- pc is stored, then coro_suspend, which charges and may answer 9
-abbrev pub suspend : ℕ → CoroState → ℕ → ℕ → Keys → World → After Step
+abbrev pub suspend : ℕ → CoroState → ℕ → ℕ → Option (ℕ × ℕ) → World → After Step
 suspend pc state dst payload keys w = and_then (coro_suspend state dst payload keys (store_pc pc w)) deliver_all
 
 -- 01: "the largest integer key so far .., the start being -1"
@@ -116,23 +110,23 @@ abbrev pub largest_in : Coroutine → ℕ
 largest_in Absent = bits_of 63 (negsuc 0)
 largest_in (Is k r) = r.largest
 
-abbrev pub key_at : ℕ → World → WordOr → After AutoKey
-key_at n w (WordOr.Word k) = after w (AutoKey.Key k n)
-key_at n w (WordOr.Refused f) = after w (AutoKey.Refused f)
+abbrev pub key_at : ℕ → World → Result ℕ Fault → After (Result (ℕ × ℕ) Fault)
+key_at n w (Ok k) = after w (Ok (k, n))
+key_at n w (Err f) = after w (Err f)
 
 -- 01: "at 2^63 - 1 it answers 7 and does not suspend"; pc is not stored
-abbrev pub key_exact : Exact → World → After AutoKey
-key_exact (Exact.Fits n) w = and_then (encode_int n w) (key_at n)
-key_exact Exact.Over w = after w (AutoKey.Refused Fault.ArithOverflow)
+abbrev pub key_exact : Option ℕ → World → After (Result (ℕ × ℕ) Fault)
+key_exact (Some n) w = and_then (encode_int n w) (key_at n)
+key_exact None w = after w (Err Fault.ArithOverflow)
 
 -- coro.rs: auto_key. 01: "the largest integer key so far plus 1"
-unfoldable pub auto_key : ℕ → World → After AutoKey
+unfoldable pub auto_key : ℕ → World → After (Result (ℕ × ℕ) Fault)
 auto_key largest w = key_exact (next_key largest) w
 
 -- the key, and its object where it needs one, are made before the suspension. 01: "A key object made before that 9 stays."
-abbrev pub yield_key : ℕ → ℕ → ℕ → World → AutoKey → After Step
-yield_key pc dst payload w (AutoKey.Key key largest) = suspend pc CoroState.Yielded dst payload (Keys.Set key largest) w
-yield_key pc dst payload w (AutoKey.Refused f) = fault w f
+abbrev pub yield_key : ℕ → ℕ → ℕ → World → Result (ℕ × ℕ) Fault → After Step
+yield_key pc dst payload w (Ok (key, largest)) = suspend pc CoroState.Yielded dst payload (Some (key, largest)) w
+yield_key pc dst payload w (Err f) = fault w f
 
 -- 01: "No active coroutine: 5, pc not stored by the instruction."
 abbrev pub yield_on : List Active → ℕ → ℕ → ℕ → World → After Step
@@ -144,15 +138,15 @@ unfoldable pub yield : ℕ → ℕ → ℕ → World → After Step
 yield pc dst src w = yield_on w.chain pc dst src w
 
 -- 01: "raises the largest if the key is a greater integer"
-abbrev pub larger_of : ℕ → Opt → ℕ
-larger_of largest Opt.None = largest
-larger_of largest (Opt.Some n) = pick (less_bits largest n) n largest
+abbrev pub larger_of : ℕ → Option ℕ → ℕ
+larger_of largest None = largest
+larger_of largest (Some n) = pick (less_bits largest n) n largest
 
 -- 01: "No active coroutine: 5, pc not stored by the instruction."; "YieldKv keeps its own key"
 abbrev pub yield_kv_on : List Active → ℕ → ℕ → ℕ → ℕ → World → After Step
 yield_kv_on [] pc dst src key w = fault w Fault.CannotSuspend
 yield_kv_on (a ∷ chain) pc dst src key w =
-    suspend pc CoroState.Yielded dst (reg w src) (Keys.Set (reg w key) (larger_of (largest_in (coro w a.coro)) (dyn_int w (reg w key)))) w
+    suspend pc CoroState.Yielded dst (reg w src) (Some (reg w key, larger_of (largest_in (coro w a.coro)) (dyn_int w (reg w key)))) w
 
 -- coro.rs: exec, YieldKv
 unfoldable pub yield_kv : ℕ → ℕ → ℕ → ℕ → World → After Step
@@ -161,7 +155,7 @@ yield_kv pc dst src key w = yield_kv_on w.chain pc dst src key w
 -- 01: "No active coroutine: 5, pc not stored by the instruction."; "Await leaves key and largest."
 abbrev pub await_on : List Active → ℕ → ℕ → ℕ → World → After Step
 await_on [] pc dst src w = fault w Fault.CannotSuspend
-await_on (a ∷ chain) pc dst src w = suspend pc CoroState.Awaiting dst (reg w src) Keys.Keep w
+await_on (a ∷ chain) pc dst src w = suspend pc CoroState.Awaiting dst (reg w src) None w
 
 -- coro.rs: exec, Await
 unfoldable pub await : ℕ → ℕ → ℕ → World → After Step
@@ -170,25 +164,24 @@ await pc dst src w = await_on w.chain pc dst src w
 -- ---- Resume, ResumeThrow, CoroClose
 
 -- 01: "A suspended coroutine then gets the sent word in its waiting register .. A Created one ignores the sent word."
-abbrev pub arrive : ℕ → World → Entered → After Step
-arrive sent w Entered.Fresh = after w Step.Frame
-arrive sent w (Entered.Suspended d) = after (coro_send d sent w) Step.Frame
-arrive sent w (Entered.Refused f) = fault w f
+abbrev pub arrive : ℕ → World → Result Entered Fault → After Step
+arrive sent w (Ok Entered.Fresh) = after w Step.Frame
+arrive sent w (Ok (Entered.Suspended d)) = after (coro_send d sent w) Step.Frame
+arrive sent w (Err f) = fault w f
 
 -- coro.rs: exec, Resume. 01: "stores pc in the top frame, then coro_enter"
 unfoldable pub resume : ℕ → ℕ → ℕ → ℕ → World → After Step
 resume pc dst c src w = and_then (coro_enter (reg w c) (Driver.Resume dst) (store_pc pc w)) (arrive (reg w src))
 
 -- the word thrown is raised where the entered coroutine was suspended
-abbrev pub throw_entered : ℕ → World → Entered → After Step
-throw_entered v w Entered.Fresh = after w (Step.Unwind (Fault.Throw v))
-throw_entered v w (Entered.Suspended d) = after w (Step.Unwind (Fault.Throw v))
-throw_entered v w (Entered.Refused f) = fault w f
+abbrev pub throw_entered : ℕ → World → Result Entered Fault → After Step
+throw_entered v w (Ok a) = after w (Step.Unwind (Fault.Throw v))
+throw_entered v w (Err f) = fault w f
 
 -- c is the coroutine's word, err the thrown word
-abbrev pub throw_to : Stated → ℕ → ℕ → ℕ → ℕ → World → After Step
-throw_to (Stated.Refused f) pc dst c err w = fault w f
-throw_to (Stated.In s) pc dst c err w =
+abbrev pub throw_to : Result CoroState Fault → ℕ → ℕ → ℕ → ℕ → World → After Step
+throw_to (Err f) pc dst c err w = fault w f
+throw_to (Ok s) pc dst c err w =
     pick (is_created s) (fault (finish_coroutine c CoroState.Failed err w) (Fault.Throw err))
     (and_then (coro_enter c (Driver.Resume dst) (store_pc pc w)) (throw_entered err))
 
@@ -196,23 +189,22 @@ throw_to (Stated.In s) pc dst c err w =
 unfoldable pub resume_throw : ℕ → ℕ → ℕ → ℕ → World → After Step
 resume_throw pc dst c src w = throw_to (coro_state w (reg w c)) pc dst (reg w c) (reg w src) w
 
-abbrev pub close_entered : ℕ → ℕ → World → Entered → After Step
-close_entered c signal w Entered.Fresh = after (change_coro c (λ k. k) (close signal) w) (Step.Unwind (Fault.Throw signal))
-close_entered c signal w (Entered.Suspended d) = after (change_coro c (λ k. k) (close signal) w) (Step.Unwind (Fault.Throw signal))
-close_entered c signal w (Entered.Refused f) = fault w f
+abbrev pub close_entered : ℕ → ℕ → World → Result Entered Fault → After Step
+close_entered c signal w (Ok a) = after (change_coro c (λ k. k) (close signal) w) (Step.Unwind (Fault.Throw signal))
+close_entered c signal w (Err f) = fault w f
 
 -- c is the coroutine's word, signal the word that it is closed by
 abbrev pub close_in : ℕ → ℕ → ℕ → ℕ → World → After Step
 close_in pc dst c signal w = and_then (coro_enter c (Driver.Resume dst) (store_pc pc w)) (close_entered c signal)
 
-abbrev pub close_to : Stated → ℕ → ℕ → ℕ → ℕ → World → After Step
-close_to (Stated.Refused f) pc dst c signal w = fault w f
-close_to (Stated.In CoroState.Created) pc dst c signal w = put dst nil (finish_coroutine c CoroState.Returned nil w)
-close_to (Stated.In CoroState.Running) pc dst c signal w = fault w Fault.InvalidCoroState
-close_to (Stated.In CoroState.Yielded) pc dst c signal w = close_in pc dst c signal w
-close_to (Stated.In CoroState.Awaiting) pc dst c signal w = close_in pc dst c signal w
-close_to (Stated.In CoroState.Returned) pc dst c signal w = put dst nil w
-close_to (Stated.In CoroState.Failed) pc dst c signal w = put dst nil w
+abbrev pub close_to : Result CoroState Fault → ℕ → ℕ → ℕ → ℕ → World → After Step
+close_to (Err f) pc dst c signal w = fault w f
+close_to (Ok CoroState.Created) pc dst c signal w = put dst nil (finish_coroutine c CoroState.Returned nil w)
+close_to (Ok CoroState.Running) pc dst c signal w = fault w Fault.InvalidCoroState
+close_to (Ok CoroState.Yielded) pc dst c signal w = close_in pc dst c signal w
+close_to (Ok CoroState.Awaiting) pc dst c signal w = close_in pc dst c signal w
+close_to (Ok CoroState.Returned) pc dst c signal w = put dst nil w
+close_to (Ok CoroState.Failed) pc dst c signal w = put dst nil w
 
 -- coro.rs: exec, CoroClose
 unfoldable pub coro_close : ℕ → ℕ → ℕ → ℕ → World → After Step
@@ -220,9 +212,9 @@ coro_close pc dst c src w = close_to (coro_state w (reg w c)) pc dst (reg w c) (
 
 -- ---- CoroStatus, CoroCurrent, CoroKey, CoroResult
 
-abbrev pub status_of : Stated → ℕ → World → After Step
-status_of (Stated.In s) dst w = put dst (code_of s) w
-status_of (Stated.Refused f) dst w = fault w f
+abbrev pub status_of : Result CoroState Fault → ℕ → World → After Step
+status_of (Ok s) dst w = put dst (code_of s) w
+status_of (Err f) dst w = fault w f
 
 -- coro.rs: exec, CoroStatus
 unfoldable pub coro_status : ℕ → ℕ → World → After Step
@@ -255,9 +247,9 @@ coro_result dst c w = result_in (coro w (reg w c)) (not_a w (reg w c)) dst w
 -- ---- iter_next
 
 -- has and val are registers, iter and src the words found in theirs
-abbrev pub iter_on : Stated → ℕ → ℕ → ℕ → ℕ → ℕ → World → After Step
-iter_on (Stated.Refused f) pc has iter val src w = fault w f
-iter_on (Stated.In s) pc has iter val src w =
+abbrev pub iter_on : Result CoroState Fault → ℕ → ℕ → ℕ → ℕ → ℕ → World → After Step
+iter_on (Err f) pc has iter val src w = fault w f
+iter_on (Ok s) pc has iter val src w =
     pick (is_done (object w iter) || is_returned s) (put has 0 (set_done iter w))
     (pick (is_awaiting s) (fault w Fault.TypeError)
     (and_then (coro_enter src (Driver.Iter has val iter) (store_pc pc w)) (arrive nil)))

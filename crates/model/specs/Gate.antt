@@ -1,6 +1,6 @@
 -- 01: "Gate. Order: 11, 12, 13, then `exec::charge` (10), then the instruction's own tests as the Rust orders them." And the
 -- added calls: "Each tests 11 first, then 12 or 15, then 13 or 16, then what its Rust function tests."
-use Rattle.std.specs.Prelude.{ℕ, ◌+◌, Bool, not, List, length, eqb, ltb, leb}
+use Rattle.std.specs.Prelude.{ℕ, ◌+◌, Bool, not, List, length, eqb, ltb, leb, Some}
 use Rattle.lists.specs.Pick.{pick}
 use Rattle.heap.specs.Fault.{number_of}
 use Rattle.heap.specs.declared.fault.Fault.{Fault}
@@ -10,7 +10,6 @@ use Rattle.model.specs.Frames.{top_base}
 use Rattle.model.specs.Cleanup.{charge}
 use Rattle.model.specs.declared.machine.Charge.{Charge}
 use Rattle.model.specs.declared.exec.Step.{Step}
-use Rattle.model.specs.declared.call.OptPc.{OptPc}
 use Rattle.model.specs.declared.call.Answer.{Answer}
 
 abbrev pub refused : World → Fault → After Answer
@@ -47,7 +46,7 @@ unfoldable pub instruction : ℕ → Bool → (World → After Step) → World �
 instruction pc operands arm w =
     pick (is_nil w.frames) (refused w Fault.NoFrame)
     (pick (not operands) (refused w Fault.BadOperand)
-    (and_then (charge (OptPc.Some pc) w) (charged arm)))
+    (and_then (charge (Some pc) w) (charged arm)))
 
 -- put word or function call, whose operands pass or not, and which then does `body`
 unfoldable pub on_frame : Bool → (World → After Answer) → World → After Answer

@@ -1,5 +1,5 @@
 -- heap.rs on the world: objects by their words, charges, alloc. conv.rs: encode_int, dyn_int, to_dyn.
-use Rattle.std.specs.Prelude.{ℕ, Bool, true, not, List, length, leb}
+use Rattle.std.specs.Prelude.{ℕ, Bool, true, not, List, length, leb, Option, Result, Some, None, Ok, Err}
 use Rattle.lists.specs.Pick.{pick}
 use Rattle.heap.specs.Word.{nil, class_of, slot_of}
 use Rattle.heap.specs.Coding.{of_bits}
@@ -9,24 +9,20 @@ use Rattle.heap.specs.Charge.{sat_add}
 use Rattle.heap.specs.Table as Table
 use Rattle.heap.specs.Table.{Slot, slot_at, get, dyn_int_of, put_object, push_object, next_word}
 use Rattle.heap.specs.declared.fault.Fault.{Fault}
-use Rattle.heap.specs.declared.value.Opt.{Opt}
-use Rattle.heap.specs.declared.heap.Place.{Place}
-use Rattle.heap.specs.declared.int.Exact.{Exact}
-use Rattle.heap.specs.declared.int.Inline.{Inline}
+use Rattle.heap.specs.declared.value.Word.{Word}
 use Rattle.heap.specs.declared.int.IntTy.{IntTy}
 use Rattle.model.specs.Object.{Core, Rest, Object, is_filled, Coroutine, Absent, Is, as_coro}
 use Rattle.model.specs.World.{World, After, after, with_slots, with_used}
 use Rattle.heap.specs.declared.heap.ResultKind.{ResultKind}
-use Rattle.model.specs.declared.coro.WordOr.{WordOr}
 
 -- ---- objects by their words
 
-abbrev pub place : World → ℕ → Place
+abbrev pub place : World → ℕ → Option ℕ
 place w v = get Object.Empty is_filled w.slots v
 
-abbrev pub object_at : List (Slot Object) → Place → Object
-object_at xs Place.Nothing = Object.Empty
-object_at xs (Place.At i) = (slot_at Object.Empty is_filled xs i).object
+abbrev pub object_at : List (Slot Object) → Option ℕ → Object
+object_at xs None = Object.Empty
+object_at xs (Some i) = (slot_at Object.Empty is_filled xs i).object
 
 -- heap.rs: get; Empty is the Rust's None
 abbrev pub object : World → ℕ → Object
@@ -56,7 +52,7 @@ abbrev pub change_coro : ℕ → (Core → Core) → (Rest → Rest) → World �
 change_coro v f g w = change_as (coro w v) v f g w
 
 -- heap.rs: get_mut, an iterator's mark and key changed where the word finds one
-abbrev pub change_iter_in : Object → ℕ → (Bool → Bool) → (Opt → Opt) → World → World
+abbrev pub change_iter_in : Object → ℕ → (Bool → Bool) → ((Option ℕ) → Option ℕ) → World → World
 change_iter_in Object.Empty v f g w = w
 change_iter_in (Object.Func n) v f g w = w
 change_iter_in (Object.Int n) v f g w = w
@@ -68,7 +64,7 @@ abbrev pub set_done : ℕ → World → World
 set_done v w = change_iter_in (object w v) v (λ _. true) (λ k. k) w
 
 abbrev pub set_key : ℕ → ℕ → World → World
-set_key v key w = change_iter_in (object w v) v (λ d. d) (λ _. Opt.Some key) w
+set_key v key w = change_iter_in (object w v) v (λ d. d) (λ _. Some key) w
 
 -- ---- charges
 
@@ -80,46 +76,46 @@ fits w bytes = Charge.fits w.used w.setup.limits.memory bytes
 abbrev pub slots_full : World → Bool
 slots_full w = leb w.setup.limits.slots (length w.slots)
 
-abbrev pub refuse : World → Fault → After WordOr
-refuse w f = after w (WordOr.Refused f)
+abbrev pub refuse : World → Fault → After (Result ℕ Fault)
+refuse w f = after w (Err f)
 
 -- heap.rs: alloc. 01: "14 is tested right after memory and leaves what 9 leaves there."
-unfoldable pub alloc : ℕ → Object → World → After WordOr
+unfoldable pub alloc : ℕ → Object → World → After (Result ℕ Fault)
 alloc bytes o w =
     pick (not (fits w bytes)) (refuse w Fault.OutOfMemory)
     (pick (slots_full w) (refuse w Fault.Full)
-    (after (with_used (sat_add w.used bytes) (with_slots (push_object w.slots o) w)) (WordOr.Word (next_word w.slots))))
+    (after (with_used (sat_add w.used bytes) (with_slots (push_object w.slots o) w)) (Ok (next_word w.slots))))
 
 -- ---- integers
 
 -- conv.rs: encode_int, an integer's word: inline, or that of a new object, which costs I
-abbrev pub encode_at : Inline → ℕ → World → After WordOr
-encode_at (Inline.At x) n w = after w (WordOr.Word x.0)
-encode_at Inline.Large n w = alloc w.setup.costs.int (Object.Int n) w
+abbrev pub encode_at : Option Word → ℕ → World → After (Result ℕ Fault)
+encode_at (Some x) n w = after w (Ok x.0)
+encode_at None n w = alloc w.setup.costs.int (Object.Int n) w
 
-abbrev pub encode_int : ℕ → World → After WordOr
+abbrev pub encode_int : ℕ → World → After (Result ℕ Fault)
 encode_int n w = encode_at (inline_of (of_bits 63 n)) n w
 
 -- conv.rs: dyn_int, the integer that a word holds
-abbrev pub int_in : Object → Opt
-int_in Object.Empty = Opt.None
-int_in (Object.Func f) = Opt.None
-int_in (Object.Int n) = Opt.Some n
-int_in (Object.Iter s d k) = Opt.None
-int_in (Object.Error e f p v) = Opt.None
-int_in (Object.Coro k r) = Opt.None
+abbrev pub int_in : Object → Option ℕ
+int_in Object.Empty = None
+int_in (Object.Func f) = None
+int_in (Object.Int n) = Some n
+int_in (Object.Iter s d k) = None
+int_in (Object.Error e f p v) = None
+int_in (Object.Coro k r) = None
 
-abbrev pub dyn_int : World → ℕ → Opt
+abbrev pub dyn_int : World → ℕ → Option ℕ
 dyn_int w v = dyn_int_of Object.Empty is_filled int_in w.slots v
 
 -- an integer of 64 bits as a word. 01: "A u64 above 2^63 - 1 gives 7."
-abbrev pub encode_exact : Exact → World → After WordOr
-encode_exact (Exact.Fits n) w = encode_int n w
-encode_exact Exact.Over w = refuse w Fault.ArithOverflow
+abbrev pub encode_exact : Option ℕ → World → After (Result ℕ Fault)
+encode_exact (Some n) w = encode_int n w
+encode_exact None w = refuse w Fault.ArithOverflow
 
 -- conv.rs: to_dyn, a result of a kind as a dynamic word; nil for none
-unfoldable pub to_dyn : ResultKind → ℕ → World → After WordOr
-to_dyn ResultKind.None v w = after w (WordOr.Word nil)
-to_dyn ResultKind.Dyn v w = after w (WordOr.Word v)
+unfoldable pub to_dyn : ResultKind → ℕ → World → After (Result ℕ Fault)
+to_dyn ResultKind.None v w = after w (Ok nil)
+to_dyn ResultKind.Dyn v w = after w (Ok v)
 to_dyn ResultKind.I64 v w = encode_exact (exactly (value_of IntTy.I64 v)) w
 to_dyn ResultKind.U64 v w = encode_exact (exactly (value_of IntTy.U64 v)) w

@@ -1,7 +1,6 @@
 -- heap.rs: Object and CoroObj, as values. A coroutine is its core, which an entry empties and a suspension fills, and the rest, which
 -- stays with it while it runs.
-use Rattle.std.specs.Prelude.{ℕ, Bool, true, false, List}
-use Rattle.heap.specs.declared.value.Opt.{Opt}
+use Rattle.std.specs.Prelude.{ℕ, Bool, true, false, List, Option}
 use Rattle.heap.specs.declared.object.CoroState.{CoroState}
 use Rattle.model.specs.declared.machine.Frame.{Frame}
 
@@ -41,7 +40,7 @@ pub data Object : Type 0 where
   -- an integer that is not inline, as 64 bits
   Int : ℕ → Object
   -- an iterator over a coroutine: source, done, key
-  Iter : ℕ → Bool → Opt → Object
+  Iter : ℕ → Bool → Option ℕ → Object
   -- an error: 01's number, function, pc, payload
   Error : ℕ → ℕ → ℕ → ℕ → Object
   Coro : Core → Rest → Object

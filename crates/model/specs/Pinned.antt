@@ -1,8 +1,7 @@
 -- Runs that fix a rule of 01 at its edge: each would come out otherwise under one wrong definition (must-fail).
-use Rattle.std.specs.Prelude.{ℕ, ◌≡◌, refl, true, false, List, [], ◌∷◌, ◌++◌, map}
+use Rattle.std.specs.Prelude.{ℕ, ◌≡◌, refl, true, false, List, [], ◌∷◌, ◌++◌, map, Some, None, Ok}
 use Rattle.heap.specs.Table.{slot}
 use Rattle.heap.specs.declared.fault.Fault.{Fault}
-use Rattle.heap.specs.declared.value.Opt.{Opt}
 use Rattle.heap.specs.declared.object.CoroState.{CoroState}
 use Rattle.heap.specs.declared.heap.ResultKind.{ResultKind}
 use Rattle.model.specs.Object.{Object}
@@ -15,9 +14,6 @@ use Rattle.model.specs.Example.{c, d, holding, reached, number, look}
 use Rattle.model.specs.Runs.{caller, body, begun, handed}
 use Rattle.model.specs.declared.machine.Cont.{Cont}
 use Rattle.model.specs.declared.machine.Frame.{Frame}
-use Rattle.model.specs.declared.machine.Outcome.{Outcome}
-use Rattle.model.specs.declared.coro.Stated.{Stated}
-use Rattle.model.specs.declared.call.OptPc.{OptPc}
 use Rattle.model.specs.declared.call.Op.{Op}
 
 -- ---- calls
@@ -52,11 +48,11 @@ queued =
 -- ---- what they do
 
 -- "start ≤ pc < end"
-pub inside : number catches (Op.Unwind (Fault.Throw 9) (OptPc.Some 99)) ≡ 0
+pub inside : number catches (Op.Unwind (Fault.Throw 9) (Some 99)) ≡ 0
 unfolding computed
 inside = refl
 
-pub at-end : number catches (Op.Unwind (Fault.Throw 9) (OptPc.Some 100)) ≡ 17
+pub at-end : number catches (Op.Unwind (Fault.Throw 9) (Some 100)) ≡ 17
 unfolding computed
 at-end = refl
 
@@ -66,21 +62,21 @@ unfolding computed
 failed-result = refl
 
 -- "adds to the bank if there is one"
-pub banked : (reached (handed ++ (Op.Grant 5 ∷ []))).fuel ≡ record { fuel = 0; bank = Opt.Some 1002; ready = true }
+pub banked : (reached (handed ++ (Op.Grant 5 ∷ []))).fuel ≡ record { fuel = 0; bank = Some 1002; ready = true }
 unfolding computed
 banked = refl
 
 -- "Take outcome: reads and clears it"; stop run clears it too
-pub taken : (reached (hosted ++ (Op.TakeOutcome ∷ []))).outcome ≡ Outcome.None
+pub taken : (reached (hosted ++ (Op.TakeOutcome ∷ []))).outcome ≡ None
 unfolding computed
 taken = refl
 
-pub stopped : (reached (hosted ++ (Op.StopRun ∷ []))).outcome ≡ Outcome.None
+pub stopped : (reached (hosted ++ (Op.StopRun ∷ []))).outcome ≡ None
 unfolding computed
 stopped = refl
 
 -- an error object has function and pc of the top frame, once the given pc is stored
-pub error : object (reached (holding 1 1 ++ (Op.Unwind Fault.TypeError (OptPc.Some 7) ∷ []))) d ≡ Object.Error 2 1 7 0
+pub error : object (reached (holding 1 1 ++ (Op.Unwind Fault.TypeError (Some 7) ∷ []))) d ≡ Object.Error 2 1 7 0
 unfolding computed
 error = refl
 
@@ -99,7 +95,7 @@ unfolding computed
 source-awaits = refl
 
 -- a word that equals the signal of one that is not closing is no signal
-pub no-signal : coro_state (reached (begun ++ (Op.Unwind (Fault.Throw 0) OptPc.None ∷ []))) c ≡ Stated.In CoroState.Failed
+pub no-signal : coro_state (reached (begun ++ (Op.Unwind (Fault.Throw 0) None ∷ []))) c ≡ Ok CoroState.Failed
 unfolding computed
 no-signal = refl
 
@@ -133,7 +129,7 @@ pub returned-words : (reached (restored ++ (Op.Finish ResultKind.None 0 ∷ Op.F
 unfolding computed
 returned-words = refl
 
-pub returned : coro_state (reached (restored ++ (Op.Finish ResultKind.None 0 ∷ Op.Finish ResultKind.Dyn 7 ∷ []))) c ≡ Stated.In CoroState.Returned
+pub returned : coro_state (reached (restored ++ (Op.Finish ResultKind.None 0 ∷ Op.Finish ResultKind.Dyn 7 ∷ []))) c ≡ Ok CoroState.Returned
 unfolding computed
 returned = refl
 

@@ -1,11 +1,9 @@
 -- program.rs: the functions of a program. 01: "Closing list", the set-up and its ranges.
-use Rattle.std.specs.Prelude.{ℕ, ◌^◌, Bool, true, ◌&&◌, List, [], ◌∷◌, length, get_or, take, ltb, leb}
+use Rattle.std.specs.Prelude.{ℕ, ◌^◌, Bool, true, ◌&&◌, List, [], ◌∷◌, length, get_or, take, ltb, leb, Option, Some, None}
 use Rattle.lists.specs.Pick.{pick}
-use Rattle.heap.specs.declared.value.Opt.{Opt}
 use Rattle.model.specs.Lists.{each}
 use Rattle.model.specs.declared.program.Handler.{Handler}
 use Rattle.model.specs.declared.program.Function.{Function}
-use Rattle.model.specs.declared.program.Caught.{Caught}
 use Rattle.model.specs.declared.program.Limits.{Limits}
 use Rattle.model.specs.declared.program.Costs.{Costs}
 
@@ -22,7 +20,7 @@ func_of f = record { regs = f.regs; params = f.params; handlers = take f.count f
 pub record Setup : Type 0 where
   pub limits : Limits
   pub costs : Costs
-  pub hook : Opt
+  pub hook : Option ℕ
   pub functions : List Func
 
 abbrev pub no_func : Func
@@ -39,9 +37,9 @@ is_function s f = ltb f (length s.functions)
 abbrev pub covers : ℕ → Handler → Bool
 covers pc h = leb h.start pc && ltb pc h.end
 
-abbrev pub first_of : ℕ → List Handler → Caught
-first_of pc [] = Caught.Nothing
-first_of pc (h ∷ hs) = pick (covers pc h) (Caught.By h) (first_of pc hs)
+abbrev pub first_of : ℕ → List Handler → Option Handler
+first_of pc [] = None
+first_of pc (h ∷ hs) = pick (covers pc h) (Some h) (first_of pc hs)
 
 -- ---- 01: "Closing list"
 
@@ -67,9 +65,9 @@ abbrev pub function_ok : Func → Bool
 function_ok f = leb f.regs 256 && leb f.params f.regs && leb (length f.handlers) 8 && each (handler_ok f.regs) f.handlers
 
 -- "Hook: none, or a function with a register."
-abbrev pub hook_ok : Setup → Opt → Bool
-hook_ok s Opt.None = true
-hook_ok s (Opt.Some f) = is_function s f && ltb 0 (func s f).regs
+abbrev pub hook_ok : Setup → Option ℕ → Bool
+hook_ok s None = true
+hook_ok s (Some f) = is_function s f && ltb 0 (func s f).regs
 
 -- "slots .. not fewer than the functions, functions 1-32"
 unfoldable pub setup_ok : Setup → Bool

@@ -1,8 +1,7 @@
 -- Short runs, by computation: what a resume, a yield, a loop, a close and a cleanup do.
-use Rattle.std.specs.Prelude.{ℕ, ◌≡◌, refl, true, false, List, [], ◌∷◌, ◌++◌, pos}
+use Rattle.std.specs.Prelude.{ℕ, ◌≡◌, refl, true, false, List, [], ◌∷◌, ◌++◌, pos, Some, None, Ok}
 use Rattle.heap.specs.Word.{nil, int_word}
 use Rattle.heap.specs.declared.fault.Fault.{Fault}
-use Rattle.heap.specs.declared.value.Opt.{Opt}
 use Rattle.heap.specs.declared.object.CoroState.{CoroState}
 use Rattle.model.specs.Object.{Object}
 use Rattle.model.specs.Heap.{object}
@@ -13,9 +12,7 @@ use Rattle.model.specs.Example.{c, d, holding, reached, look}
 use Rattle.model.specs.declared.machine.Cont.{Cont}
 use Rattle.model.specs.declared.machine.Driver.{Driver}
 use Rattle.model.specs.declared.machine.Frame.{Frame}
-use Rattle.model.specs.declared.coro.Stated.{Stated}
 use Rattle.heap.specs.declared.heap.ResultKind.{ResultKind}
-use Rattle.model.specs.declared.call.OptPc.{OptPc}
 use Rattle.model.specs.declared.call.Op.{Op}
 use Rattle.model.specs.declared.call.Answer.{Answer}
 
@@ -81,9 +78,9 @@ looped = looping ++ (Op.IterNext 2 2 1 3 0 ∷ Op.Finish ResultKind.None 0 ∷ [
 
 pub record Looped : Type 0 where
   pub first : look looping ≡ c ∷ d ∷ 1 ∷ 7 ∷ 0 ∷ 0 ∷ []
-  pub key : object (reached looping) d ≡ Object.Iter c false (Opt.Some (int_word (pos 0)))
+  pub key : object (reached looping) d ≡ Object.Iter c false (Some (int_word (pos 0)))
   pub last : look looped ≡ c ∷ d ∷ 0 ∷ 7 ∷ 0 ∷ 0 ∷ []
-  pub done : object (reached looped) d ≡ Object.Iter c true (Opt.Some (int_word (pos 0)))
+  pub done : object (reached looped) d ≡ Object.Iter c true (Some (int_word (pos 0)))
 
 pub run-looped : Looped
 unfolding computed
@@ -96,14 +93,14 @@ abbrev pub handed : List Op
 handed = yielded ++ (Op.HandOver c ∷ [])
 
 abbrev pub cleaned : List Op
-cleaned = handed ++ (Op.CoroCurrent 9 1 ∷ Op.Unwind (Fault.Throw nil) OptPc.None ∷ [])
+cleaned = handed ++ (Op.CoroCurrent 9 1 ∷ Op.Unwind (Fault.Throw nil) None ∷ [])
 
 pub record Cleaned : Type 0 where
   pub starts : (tested (reached handed) (Op.CoroCurrent 9 1)).answer ≡ Answer.Cleanup 1
-  pub ends : (tested (reached (handed ++ (Op.CoroCurrent 9 1 ∷ []))) (Op.Unwind (Fault.Throw nil) OptPc.None)).answer ≡ Answer.Stopped
+  pub ends : (tested (reached (handed ++ (Op.CoroCurrent 9 1 ∷ []))) (Op.Unwind (Fault.Throw nil) None)).answer ≡ Answer.Stopped
   pub stack : (reached cleaned).stack ≡ c ∷ 7 ∷ []
   pub frames : (reached cleaned).frames ≡ caller 9 ∷ []
-  pub state : coro_state (reached cleaned) c ≡ Stated.In CoroState.Returned
+  pub state : coro_state (reached cleaned) c ≡ Ok CoroState.Returned
 
 pub run-cleaned : Cleaned
 unfolding computed

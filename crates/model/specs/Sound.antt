@@ -1,11 +1,10 @@
 -- 01: "Sound". One definition for each rule, under the words that it states. A frame's extent runs from its base to the next
 -- frame's base, or to the end of the stack; of a saved frame, to the end of the saved words. Words, counts and fuel have 64
 -- bits by their type.
-use Rattle.std.specs.Prelude.{ℕ, suc, ◌+◌, ◌^◌, max, Bool, true, false, not, ◌&&◌, ◌||◌, List, [], ◌∷◌, map, length, eqb, ltb, leb}
+use Rattle.std.specs.Prelude.{ℕ, suc, ◌+◌, ◌^◌, max, Bool, true, false, not, ◌&&◌, ◌||◌, List, [], ◌∷◌, map, length, eqb, ltb, leb, Option, Some, None}
 use Rattle.lists.specs.Pick.{pick}
 use Rattle.heap.specs.Word.{reference}
 use Rattle.heap.specs.Table.{Slot}
-use Rattle.heap.specs.declared.value.Opt.{Opt}
 use Rattle.model.specs.Lists.{is_nil, each, among, distinct}
 use Rattle.model.specs.State.{is_running, is_suspended, is_resumable, is_finished}
 use Rattle.model.specs.Program.{Func, Setup, func, is_function, between, setup_ok}
@@ -19,7 +18,6 @@ use Rattle.model.specs.declared.machine.Driver.{Driver}
 use Rattle.model.specs.declared.machine.Active.{Active}
 use Rattle.model.specs.declared.machine.Frame.{Frame}
 use Rattle.model.specs.declared.machine.Stop.{Stop}
-use Rattle.model.specs.declared.machine.Outcome.{Outcome}
 
 -- ---- "sizes within limits"
 
@@ -176,9 +174,9 @@ queues_ok w = queue_ok (λ r. r.task) w w.ready && queue_ok (λ r. r.finalized) 
 
 -- ---- "fuel 0 while banked"
 
-abbrev pub is_none : Opt → Bool
-is_none Opt.None = true
-is_none (Opt.Some n) = false
+abbrev pub is_none : Option ℕ → Bool
+is_none None = true
+is_none (Some n) = false
 
 unfoldable pub fuel_ok : World → Bool
 fuel_ok w = is_none w.fuel.bank || eqb w.fuel.fuel 0
@@ -212,9 +210,9 @@ stop_range (Stop.Returned v) = true
 stop_range (Stop.Failed v f pc) = ltb f (2 ^ 32) && ltb pc (2 ^ 32)
 stop_range Stop.CloseIgnored = true
 
-abbrev pub outcome_range : Outcome → Bool
-outcome_range Outcome.None = true
-outcome_range (Outcome.Some s) = stop_range s
+abbrev pub outcome_range : Option Stop → Bool
+outcome_range None = true
+outcome_range (Some s) = stop_range s
 
 unfoldable pub ranges_ok : World → Bool
 ranges_ok w = each (λ x. ltb x.tag (2 ^ 16) && object_range x.object) w.slots && outcome_range w.outcome

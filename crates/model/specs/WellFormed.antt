@@ -1,8 +1,7 @@
 -- 01: "Sound", a second time: each clause of its paragraph as a proposition, under its words. Types and list functions are cited, and no test of the
 -- machine; `sound` says yes exactly if this holds (`Exactly.antt`). Frames and chain stand top first.
-use Rattle.std.specs.Prelude.{ℕ, zero, suc, ◌+◌, ◌*◌, ◌^◌, ◌≤◌, ◌<◌, ◌≡◌, true, List, [], ◌∷◌, ◌++◌, length}
+use Rattle.std.specs.Prelude.{ℕ, zero, suc, ◌+◌, ◌*◌, ◌^◌, ◌≤◌, ◌<◌, ◌≡◌, true, List, [], ◌∷◌, ◌++◌, length, Some}
 use Rattle.heap.specs.Table.{Slot, slot}
-use Rattle.heap.specs.declared.value.Opt.{Opt}
 use Rattle.heap.specs.declared.object.CoroState.{CoroState}
 use Rattle.model.specs.Program.{Func, Setup}
 use Rattle.model.specs.ClosingList.{ClosingList}
@@ -14,7 +13,6 @@ use Rattle.model.specs.declared.machine.Driver.{Driver}
 use Rattle.model.specs.declared.machine.Active.{Active}
 use Rattle.model.specs.declared.machine.Frame.{Frame}
 use Rattle.model.specs.declared.machine.Stop.{Stop}
-use Rattle.model.specs.declared.machine.Outcome.{Outcome}
 
 infix 20 ◌∈◌ ◌ends_in◌
 -- ---- places in a list
@@ -200,7 +198,7 @@ pub record Ranges (w : World) : Type 0 where
   pub function : (i t f : ℕ) → At i (slot t (Object.Func f)) w.slots → f < 2 ^ 32
   pub error : (i t e f pc v : ℕ) → At i (slot t (Object.Error e f pc v)) w.slots → (1 ≤ e) × (e ≤ 8) × (f < 2 ^ 32) × (pc < 2 ^ 32)
   pub waiting : (i t : ℕ) (k : Core) (r : Rest) → Coro w i t k r → k.waiting < 2 ^ 16
-  pub outcome : (v f pc : ℕ) → w.outcome ≡ Outcome.Some (Stop.Failed v f pc) → (f < 2 ^ 32) × (pc < 2 ^ 32)
+  pub outcome : (v f pc : ℕ) → w.outcome ≡ Some (Stop.Failed v f pc) → (f < 2 ^ 32) × (pc < 2 ^ 32)
 
 -- ---- 01: "Sound", clause by clause
 
@@ -231,7 +229,7 @@ pub record WellFormed (w : World) : Type 0 where
   pub ready : Queue (λ r. r.task ≡ true) w w.ready
   pub cleanup : Queue (λ r. r.finalized ≡ true) w w.finalize
   -- "fuel 0 while banked"
-  pub fuel : (bank : ℕ) → w.fuel.bank ≡ Opt.Some bank → w.fuel.fuel ≡ 0
+  pub fuel : (bank : ℕ) → w.fuel.bank ≡ Some bank → w.fuel.fuel ≡ 0
   -- "words not in use are 0"
   pub unused : Unused w
   pub ranges : Ranges w

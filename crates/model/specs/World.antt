@@ -1,13 +1,12 @@
 -- The whole state of a machine. Frames and chain stand top first, the stack bottom first.
-use Rattle.std.specs.Prelude.{ℕ, suc, Bool, false, List, [], ◌∷◌}
+use Rattle.std.specs.Prelude.{ℕ, suc, Bool, false, List, [], ◌∷◌, Option, None}
 use Rattle.heap.specs.Table.{Slot, slot}
-use Rattle.heap.specs.declared.value.Opt.{Opt}
+use Rattle.model.specs.declared.machine.Stop.{Stop}
 use Rattle.model.specs.Program.{Func, Setup}
 use Rattle.model.specs.Object.{Object}
 use Rattle.model.specs.declared.machine.Frame.{Frame}
 use Rattle.model.specs.declared.machine.Active.{Active}
 use Rattle.model.specs.declared.machine.Fuel.{Fuel}
-use Rattle.model.specs.declared.machine.Outcome.{Outcome}
 
 pub record World : Type 0 where
   pub setup : Setup
@@ -21,7 +20,7 @@ pub record World : Type 0 where
   -- the cleanup queue, and whether a cleanup runs
   pub finalize : List ℕ
   pub finalizing : Bool
-  pub outcome : Outcome
+  pub outcome : Option Stop
   -- the bytes charged
   pub used : ℕ
   -- coro_seq: the next coroutine's number
@@ -57,10 +56,10 @@ fresh s =
       ready = [];
       finalize = [];
       finalizing = false;
-      outcome = Outcome.None;
+      outcome = None;
       used = 0;
       seq = 0;
-      fuel = record { fuel = 0; bank = Opt.None; ready = false };
+      fuel = record { fuel = 0; bank = None; ready = false };
     }
 
 -- ---- the world with one field replaced
@@ -86,7 +85,7 @@ with_finalize x w = record { setup = w.setup; stack = w.stack; frames = w.frames
 abbrev pub with_finalizing : Bool → World → World
 with_finalizing x w = record { setup = w.setup; stack = w.stack; frames = w.frames; chain = w.chain; slots = w.slots; ready = w.ready; finalize = w.finalize; finalizing = x; outcome = w.outcome; used = w.used; seq = w.seq; fuel = w.fuel }
 
-abbrev pub with_outcome : Outcome → World → World
+abbrev pub with_outcome : Option Stop → World → World
 with_outcome x w = record { setup = w.setup; stack = w.stack; frames = w.frames; chain = w.chain; slots = w.slots; ready = w.ready; finalize = w.finalize; finalizing = w.finalizing; outcome = x; used = w.used; seq = w.seq; fuel = w.fuel }
 
 abbrev pub with_used : ℕ → World → World

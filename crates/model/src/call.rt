@@ -1,17 +1,10 @@
 // The calls of 01, and their answers.
 
 use crate::exec::Step;
-use crate::machine::{Cont, Outcome};
+use crate::machine::{Cont, Stop};
 use heap::fault::Fault;
 use heap::heap::ResultKind;
-use heap::value::Opt;
-
-// Option<u32>: a pc to store, or none
-#[derive(Clone, Copy)]
-pub enum OptPc {
-    None,
-    Some(u32),
-}
+use heap::value::Word;
 
 // Every call but the set-up, whose operands are a table. An instruction has its pc first, then its operands in the order
 // that exec spells them. pc and function numbers have 32 bits, registers 16, argument counts 8, words 64; a continuation
@@ -102,7 +95,7 @@ pub enum Op {
     },
     Unwind {
         fault: Fault,
-        pc: OptPc,
+        pc: Option<u32>,
     },
     SpawnTask {
         word: u64,
@@ -152,7 +145,7 @@ pub enum Answer {
     // Spawn's 10 at its hook: the coroutine was made, and one unit is gone
     Unpaid { taken: u64 },
     // finish: exit, with its word or none
-    Exit(Opt),
+    Exit(Option<u64>),
     // finish: resume
     Resume,
     // unwind: a handler was taken
@@ -160,5 +153,5 @@ pub enum Answer {
     // unwind: stopped at the host, at a cleanup, or at a close that succeeded
     Stopped,
     // take outcome
-    Took(Outcome),
+    Took(Option<Stop>),
 }

@@ -1,7 +1,5 @@
 // machine.rs: frames, the chain of running coroutines, outcomes and fuel.
 
-use heap::value::Opt;
-
 // What happens to a callee's result when its frame returns.
 #[derive(Clone, Copy)]
 pub enum Cont {
@@ -60,18 +58,11 @@ pub enum Stop {
     CloseIgnored,
 }
 
-// Option<Stop>
-#[derive(Clone, Copy)]
-pub enum Outcome {
-    None,
-    Some(Stop),
-}
-
 // The fuel left; the fuel set aside while a cleanup is armed; whether one is ready (close_ready).
 #[derive(Clone, Copy)]
 pub struct Fuel {
     pub fuel: u64,
-    pub bank: Opt,
+    pub bank: Option<u64>,
     pub ready: bool,
 }
 

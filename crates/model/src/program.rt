@@ -40,13 +40,6 @@ pub struct Function {
     pub count: u64,
 }
 
-// The first handler that covers a pc.
-#[derive(Clone, Copy)]
-pub enum Caught {
-    Nothing,
-    By(Handler),
-}
-
 #[derive(Clone, Copy)]
 pub struct Limits {
     pub depth: u64,

@@ -6,6 +6,7 @@ use Rattle.memory_world.specs.Memory.{Lent}
 use Rattle.memory_world.specs.declared.machine.Machine.{Machine}
 use Rattle.memory_world.specs.declared.machine.Sizes.{Sizes}
 use Rattle.machine_state.specs.declared.called.Called.{Called}
+use Rattle.model.specs.declared.call.Answer.{Answer}
 use Rattle.memory_world.specs.Words.{sizes_of}
 use Rattle.memory_world.specs.Decode.{setup_of}
 use Rattle.memory_step.specs.Step.{MemoryState, Left, left, is_sound, step_words}
@@ -20,7 +21,7 @@ abbrev pub state : Lent → Machine → Fuel → MemoryState
 state M m f = record { words = M; machine = m; fuel = f }
 
 -- the words that a call left, and its result
-abbrev pub gives : Lent → Called → Left
+abbrev pub gives : Lent → Called Answer → Left
 gives M r = left (state M r.machine r.fuel) r.answer
 
 -- sound words, and the sizes of their set-up

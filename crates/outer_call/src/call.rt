@@ -27,7 +27,7 @@ pub fn sound_call(
     sizes: Sizes,
     fuel: Fuel,
     op: Op,
-) -> Called
+) -> Called<Answer>
     requires { SoundFits sizes (state (nine stack.old frames.old chain.old slots.old saved_stack.old saved_frames.old ready.old finalize.old setup.now plain) m fuel) }
     ensures { Steps (state (nine (of_mut stack) (of_mut frames) (of_mut chain) (of_mut slots) (of_mut saved_stack) (of_mut saved_frames) (of_mut ready) (of_mut finalize) (of_ref setup) at_entry) m fuel) op (gives (nine (of_mut stack) (of_mut frames) (of_mut chain) (of_mut slots) (of_mut saved_stack) (of_mut saved_frames) (of_mut ready) (of_mut finalize) (of_ref setup) at_exit) result) }
 {
@@ -49,7 +49,7 @@ pub fn sound_call(
 }
 
 // Everything as found, and 11.
-pub fn unsound(m: Machine, fuel: Fuel) -> Called
+pub fn unsound(m: Machine, fuel: Fuel) -> Called<Answer>
     ensures { result ≡ record { machine = m; fuel = fuel; answer = Answer.Refused Fault.Unsound } }
 {
     Called {
@@ -74,7 +74,7 @@ fn called(
     m: Machine,
     fuel: Fuel,
     op: Op,
-) -> Called
+) -> Called<Answer>
     requires { ok ≡ is_sound (state (nine stack.old frames.old chain.old slots.old saved_stack.old saved_frames.old ready.old finalize.old setup.now plain) m fuel) }
     ensures { gives (nine (of_mut stack) (of_mut frames) (of_mut chain) (of_mut slots) (of_mut saved_stack) (of_mut saved_frames) (of_mut ready) (of_mut finalize) (of_ref setup) at_exit) result ≡ step_words (state (nine (of_mut stack) (of_mut frames) (of_mut chain) (of_mut slots) (of_mut saved_stack) (of_mut saved_frames) (of_mut ready) (of_mut finalize) (of_ref setup) at_entry) m fuel) op }
 {
@@ -113,7 +113,7 @@ pub fn call(
     m: Machine,
     fuel: Fuel,
     op: Op,
-) -> Called
+) -> Called<Answer>
     ensures { gives (nine (of_mut stack) (of_mut frames) (of_mut chain) (of_mut slots) (of_mut saved_stack) (of_mut saved_frames) (of_mut ready) (of_mut finalize) (of_ref setup) at_exit) result ≡ step_words (state (nine (of_mut stack) (of_mut frames) (of_mut chain) (of_mut slots) (of_mut saved_stack) (of_mut saved_frames) (of_mut ready) (of_mut finalize) (of_ref setup) at_entry) m fuel) op }
 {
     let ok = sound_words(

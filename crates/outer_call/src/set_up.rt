@@ -9,7 +9,6 @@ ghost use Rattle.outer_call.specs.SetUp.{lengths, begins};
 ghost use Rattle.memory_world.specs.Lendings.{plain};
 
 use crate::call::unsound;
-use heap::value::Opt;
 use machine_state::called::Called;
 use memory_tables::layout;
 use memory_tables::program::{FUNCTION_WIDTH, NUMBERS_WIDTH};
@@ -65,7 +64,7 @@ fn begin(
     finalize: &mut [u64],
     setup: &mut [u64],
     given: &[u64],
-) -> Called
+) -> Called<Answer>
     requires { set_up_ok given.now (nine stack.old frames.old chain.old slots.old saved_stack.old saved_frames.old ready.old finalize.old setup.old plain) ≡ true }
     ensures { gives (nine (of_mut stack) (of_mut frames) (of_mut chain) (of_mut slots) (of_mut saved_stack) (of_mut saved_frames) (of_mut ready) (of_mut finalize) (of_mut setup) at_exit) result ≡ begins (nine (of_mut stack) (of_mut frames) (of_mut chain) (of_mut slots) (of_mut saved_stack) (of_mut saved_frames) (of_mut ready) (of_mut finalize) (of_mut setup) at_entry) given.now }
 {
@@ -85,7 +84,7 @@ fn begin(
     );
     let fuel = Fuel {
         fuel: 0,
-        bank: Opt::None,
+        bank: None,
         ready: false,
     };
     Called {
@@ -109,7 +108,7 @@ pub fn set_up(
     m: Machine,
     fuel: Fuel,
     given: &[u64],
-) -> Called
+) -> Called<Answer>
     ensures { gives (nine (of_mut stack) (of_mut frames) (of_mut chain) (of_mut slots) (of_mut saved_stack) (of_mut saved_frames) (of_mut ready) (of_mut finalize) (of_mut setup) at_exit) result ≡ set_up_words (state (nine (of_mut stack) (of_mut frames) (of_mut chain) (of_mut slots) (of_mut saved_stack) (of_mut saved_frames) (of_mut ready) (of_mut finalize) (of_mut setup) at_entry) m fuel) given.now }
 {
     if !allowed(

@@ -9,6 +9,7 @@ use crate::granted;
 use check_machine::whole::sound_words;
 use machine_state::called::Called;
 use memory_world::machine::Machine;
+use model::call::Answer;
 use model::machine::Fuel;
 use outer_call::call::unsound;
 
@@ -26,7 +27,7 @@ pub fn call(
     m: Machine,
     fuel: Fuel,
     n: u64,
-) -> Called
+) -> Called<Answer>
     ensures { gives (nine (of_ref stack) (of_ref frames) (of_ref chain) (of_ref slots) (of_ref saved_stack) (of_ref saved_frames) (of_ref ready) (of_ref finalize) (of_ref setup) at_entry) result ≡ step_words (state (nine (of_ref stack) (of_ref frames) (of_ref chain) (of_ref slots) (of_ref saved_stack) (of_ref saved_frames) (of_ref ready) (of_ref finalize) (of_ref setup) at_entry) m fuel) (Op.Grant n) }
 {
     if !sound_words(

@@ -15,7 +15,9 @@ use Rattle.memory_world.proofs.Does.{SameLengths, alike, then-alike}
 use Rattle.memory_world.specs.Words.{sizes_of}
 use Rattle.memory_world.specs.Decode.{setup_of}
 use Rattle.memory_calls.specs.Answer.{answer_words}
-use Rattle.memory_calls.specs.declared.call.Read.{Read}
+use Rattle.std.specs.Prelude.{Result}
+use Rattle.memory_calls.specs.declared.call.Gate.{Gate}
+use Rattle.model.specs.declared.call.Op.{Op}
 use Rattle.memory_step.specs.Step.{MemoryState, Left, is_sound}
 use Rattle.outer_call.specs.State.{SoundFits}
 use Rattle.outer_run.specs.Run.{do_words, Ran, run_words, count_of, read_in, calls_in, written, refusals, Reads, ListFits, Listed}
@@ -23,7 +25,7 @@ use Rattle.outer_run.proofs.Written.{splice-next}
 
 module _ (l : Sizes) (cs xs₀ : List ℕ) (n : ℕ) (s₀ : MemoryState) where
   -- the calls from place i on
-  abbrev pub left_at : ℕ → List Read
+  abbrev pub left_at : ℕ → List (Result Op Gate)
   left_at i = calls_in (n - i) (drop (i * 6) cs)
 
   pub record Along (s : MemoryState) (xs : List ℕ) (i : ℕ) : Type 0 where
@@ -80,17 +82,17 @@ module _ (l : Sizes) (cs xs₀ : List ℕ) (n : ℕ) (s₀ : MemoryState) where
           within = omega arith;
           lengths = then-alike s₀.words s.words d.state.words a.lengths q;
           long = g ∙ a.long;
-          state = ap (λ (x : Left). (at x.state).state) is ∙ sym (ap (λ (z : List Read). (run_words s z).state) step) ∙ a.state;
+          state = ap (λ (x : Left). (at x.state).state) is ∙ sym (ap (λ (z : List (Result Op Gate)). (run_words s z).state) step) ∙ a.state;
           answers =
               ap₂ (λ (ys : List ℕ) k. splice ys k (W d.state)) e (sym p)
               ∙ splice-next xs A (W d.state) (i * 8) big
               ∙ ap (λ (x : Left). splice xs (i * 8) (answer_words x.answer ++ W x.state)) is
-              ∙ sym (ap (λ (z : List Read). written xs (i * 8) (run_words s z).answers) step)
+              ∙ sym (ap (λ (z : List (Result Op Gate)). written xs (i * 8) (run_words s z).answers) step)
               ∙ a.answers;
         }
 
 -- the next turn, by what was read, done and put
-pub along-next : {l : Sizes} {cs xs₀ xs xs' : List ℕ} {n i : ℕ} {s₀ s : MemoryState} {r : Read} {d : Left} → Along l cs xs₀ n s₀ s xs i → i < n → n * 8 ≤ length xs₀ → r ≡ read_in cs i
+pub along-next : {l : Sizes} {cs xs₀ xs xs' : List ℕ} {n i : ℕ} {s₀ s : MemoryState} {r : Result Op Gate} {d : Left} → Along l cs xs₀ n s₀ s xs i → i < n → n * 8 ≤ length xs₀ → r ≡ read_in cs i
     → Reads s r d → xs' ≡ put_chunk 8 xs i (answer_words d.answer) → SameLengths s.words d.state.words → d.state.words.setup ≡ s.words.setup → length xs' ≡ length xs
     → Along l cs xs₀ n s₀ d.state xs' (i + 1)
 along-next {l} {cs} {xs₀} {xs} {xs'} {n} {i} {s₀} {s} {r} {d} a h room e did = along-more l cs xs₀ n s₀ s xs i a h room d xs' (subst (λ z. Reads s z d) e did)

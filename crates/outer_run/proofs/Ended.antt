@@ -16,7 +16,7 @@ use Rattle.memory_world.specs.Memory.{Lent}
 use Rattle.memory_world.specs.declared.machine.Machine.{Machine}
 use Rattle.memory_calls.specs.Call.{refusal}
 use Rattle.memory_calls.specs.declared.call.Gate.{Gate}
-use Rattle.memory_calls.specs.declared.call.Read.{Read}
+use Rattle.std.specs.Prelude.{Result, Ok, Err}
 use Rattle.memory_step.specs.Step.{MemoryState, Left, refuses, is_sound, decoded}
 use Rattle.outer_call.specs.State.{state, Steps}
 use Rattle.outer_call.proofs.Stepping.{stands}
@@ -32,12 +32,12 @@ module _ (M : Lent) (m : Machine) (f : Fuel) (e : is_sound (state M m f) ≡ tru
   no_frames = ap (λ k. eqb k 0) (stands M m f e).rep.frames.count ∙ nil-length (decoded (state M m f)).frames
 
   -- no call
-  pub no_read : (r : Read) (g : Gate) (x : Fault) → r ≡ Read.Not g → x ≡ refusal g (eqb m.depth 0) → Reads (state M m f) r (refuses (state M m f) x)
+  pub no_read : (r : Result Op Gate) (g : Gate) (x : Fault) → r ≡ Err g → x ≡ refusal g (eqb m.depth 0) → Reads (state M m f) r (refuses (state M m f) x)
   no_read r g x q k =
       let s = state M m f in
       let y = refusal g (is_nil (decoded s).frames) in
       record { is = ap (refuses s) (k ∙ ap (refusal g) no_frames ∙ sym (ap (λ b. pick b y Fault.Unsound) e ∙ pick_true _ _)) ∙ ap (do_words s) (sym q); again = e }
 
 -- a call
-pub call-read : (s : MemoryState) (r : Read) (o : Op) (d : Left) → r ≡ Read.Is o → Steps s o d → Reads s r d
+pub call-read : (s : MemoryState) (r : Result Op Gate) (o : Op) (d : Left) → r ≡ Ok o → Steps s o d → Reads s r d
 call-read s r o d e k = record { is = k.is ∙ ap (do_words s) (sym e); again = k.again }

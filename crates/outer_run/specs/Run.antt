@@ -1,5 +1,5 @@
 -- Calls in words: each is the outer call that its words are, one after the other.
-use Rattle.std.specs.Prelude.{◌≡◌, true, List, [], ◌∷◌, ℕ, ◌+◌, ◌*◌, ◌/◌, ◌%◌, ◌≤◌, length, replicate, eqb}
+use Rattle.std.specs.Prelude.{◌≡◌, true, List, [], ◌∷◌, ℕ, ◌+◌, ◌*◌, ◌/◌, ◌%◌, ◌≤◌, length, replicate, eqb, Result, Ok, Err}
 use Rattle.lists.specs.Pick.{pick}
 use Rattle.lists.specs.Chunks.{chunk_at, chunks, words}
 use Rattle.lists.specs.Parts.{splice}
@@ -9,16 +9,17 @@ use Rattle.model.specs.declared.call.Answer.{Answer}
 use Rattle.memory_world.specs.declared.machine.Sizes.{Sizes}
 use Rattle.memory_calls.specs.Call.{refusal, op_of}
 use Rattle.memory_calls.specs.Answer.{answer_words}
-use Rattle.memory_calls.specs.declared.call.Read.{Read}
+use Rattle.memory_calls.specs.declared.call.Gate.{Gate}
+use Rattle.model.specs.declared.call.Op.{Op}
 use Rattle.memory_step.specs.Step.{MemoryState, Left, refuses, is_sound, decoded, step_words}
 use Rattle.outer_call.specs.State.{SoundFits}
 
 -- ---- one
 
 -- words that are no call are refused too in 01's order: "Each tests 11 first, then 12 or 15, then 13 or 16"
-abbrev pub do_words : MemoryState → Read → Left
-do_words s (Read.Is o) = step_words s o
-do_words s (Read.Not g) = refuses s (pick (is_sound s) (refusal g (is_nil (decoded s).frames)) Fault.Unsound)
+abbrev pub do_words : MemoryState → Result Op Gate → Left
+do_words s (Ok o) = step_words s o
+do_words s (Err g) = refuses s (pick (is_sound s) (refusal g (is_nil (decoded s).frames)) Fault.Unsound)
 
 -- ---- a list: the states one after the other, and the answers
 
@@ -26,7 +27,7 @@ pub record Ran : Type 0 where
   pub state : MemoryState
   pub answers : List Answer
 
-abbrev pub run_words : MemoryState → List Read → Ran
+abbrev pub run_words : MemoryState → List (Result Op Gate) → Ran
 run_words s [] = record { state = s; answers = [] }
 run_words s (r ∷ rs) =
     let d = do_words s r in
@@ -38,10 +39,10 @@ run_words s (r ∷ rs) =
 abbrev pub count_of : ℕ → ℕ
 count_of n = n / 6 + pick (eqb (n % 6) 0) 0 1
 
-abbrev pub read_in : List ℕ → ℕ → Read
+abbrev pub read_in : List ℕ → ℕ → Result Op Gate
 read_in cs i = op_of (chunk_at 6 cs i)
 
-abbrev pub calls_in : ℕ → List ℕ → List Read
+abbrev pub calls_in : ℕ → List ℕ → List (Result Op Gate)
 calls_in n cs = chunks 6 op_of n cs
 
 abbrev pub written : List ℕ → ℕ → List Answer → List ℕ
@@ -53,7 +54,7 @@ refusals n = replicate n (Answer.Refused Fault.Unsound)
 
 -- ---- what the functions ask and promise, on sound words
 
-pub record Reads (s : MemoryState) (r : Read) (d : Left) : Type 0 where
+pub record Reads (s : MemoryState) (r : Result Op Gate) (d : Left) : Type 0 where
   pub is : d ≡ do_words s r
   -- so the next call may be made
   pub again : is_sound d.state ≡ true

@@ -11,9 +11,9 @@ ghost use Rattle.memory_world.specs.Lendings.{plain};
 use crate::one::do_read;
 use heap::fault::Fault;
 use memory_calls::answer::ANSWER_WIDTH;
-use memory_calls::call::{CALL_WIDTH, Read};
+use memory_calls::call::{CALL_WIDTH, Gate};
 use memory_world::machine::{Machine, Sizes};
-use model::call::Answer;
+use model::call::{Answer, Op};
 use model::machine::Fuel;
 
 // The numbers and the fuel that a run leaves.
@@ -35,7 +35,7 @@ pub fn count(n: usize) -> usize
 }
 
 // The call at place i.
-fn read_at(calls: &[u64], i: usize) -> Read
+fn read_at(calls: &[u64], i: usize) -> Result<Op, Gate>
     requires { i * 6 ≤ length calls.now }
     ensures { result ≡ read_in calls.now i }
 {
@@ -63,10 +63,8 @@ pub fn refuse_list(answers: &mut [u64], n: usize)
     requires { n * 8 ≤ length answers.old }
     ensures { answers.new ≡ written answers.old 0 (refusals n) }
 {
-    let mut j = 0;
-    while j < n {
+    for j in 0..n {
         put_at(answers, j, Answer::Refused(Fault::Unsound));
-        j += 1;
     }
 }
 
@@ -95,8 +93,7 @@ pub fn run_list(
 {
     let mut k = m;
     let mut f = fuel;
-    let mut i = 0;
-    while i < n {
+    for i in 0..n {
         let read = read_at(calls, i);
         let did = do_read(
             stack,
@@ -117,7 +114,6 @@ pub fn run_list(
         f = did.fuel;
         let a = did.answer;
         put_at(answers, i, a);
-        i += 1;
     }
     Ran {
         machine: k,

@@ -5,9 +5,9 @@ ghost use Rattle.outer_run.specs.Run.{Reads};
 ghost use Rattle.memory_world.specs.Lendings.{plain};
 
 use machine_state::called::Called;
-use memory_calls::call::{Read, refusal};
+use memory_calls::call::{Gate, refusal};
 use memory_world::machine::{Machine, Sizes};
-use model::call::Answer;
+use model::call::{Answer, Op};
 use model::machine::Fuel;
 use outer_call::call::sound_call;
 
@@ -25,13 +25,13 @@ pub fn do_read(
     m: Machine,
     sizes: Sizes,
     fuel: Fuel,
-    read: Read,
-) -> Called
+    read: Result<Op, Gate>,
+) -> Called<Answer>
     requires { SoundFits sizes (state (nine stack.old frames.old chain.old slots.old saved_stack.old saved_frames.old ready.old finalize.old setup.now plain) m fuel) }
     ensures { Reads (state (nine (of_mut stack) (of_mut frames) (of_mut chain) (of_mut slots) (of_mut saved_stack) (of_mut saved_frames) (of_mut ready) (of_mut finalize) (of_ref setup) at_entry) m fuel) read (gives (nine (of_mut stack) (of_mut frames) (of_mut chain) (of_mut slots) (of_mut saved_stack) (of_mut saved_frames) (of_mut ready) (of_mut finalize) (of_ref setup) at_exit) result) }
 {
     match read {
-        Read::Is(op) => sound_call(
+        Ok(op) => sound_call(
             stack,
             frames,
             chain,
@@ -46,7 +46,7 @@ pub fn do_read(
             fuel,
             op,
         ),
-        Read::Not(g) => {
+        Err(g) => {
             let f = refusal(g, m.depth);
             Called {
                 machine: m,

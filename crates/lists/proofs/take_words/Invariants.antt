@@ -1,5 +1,5 @@
 -- `take_words` meets its contract: after a turn at i the first i words are taken, two in a turn, and one is left or none. Assumes nothing.
-use Prim.Native.Nat.{◌≤◌, ◌-◌, ◌+◌}
+use Prim.Native.Nat.{◌≤◌, ◌-◌}
 use mathlib.Core.Path.{◌≡◌}
 use mathlib.Core.List.{◌++◌}
 use lib.ListN.{length, take, drop, replicate}

@@ -2,7 +2,7 @@
 //! whole state that the original gave; and for damaged states that `sound` tells them apart.
 
 use std::collections::{BTreeMap, BTreeSet};
-use std::fmt::Write as _;
+use std::fmt::{Display, Write as _};
 use std::fs;
 use std::path::Path;
 
@@ -48,11 +48,10 @@ const FAULTS: [&str; 17] = [
 const STATES_OF: [&str; 6] = ["Created", "Running", "Yielded", "Awaiting", "Returned", "Failed"];
 
 pub(super) const HEAD: &str =
-    "use Rattle.std.specs.Prelude.{ℕ, ◌≡◌, refl, true, false, [], ◌∷◌, ◌++◌, set}
+    "use Rattle.std.specs.Prelude.{ℕ, ◌≡◌, refl, true, false, [], ◌∷◌, ◌++◌, set, Some, None}
 use Rattle.std.proofs.Math.Option.{none, some}
 use Rattle.heap.specs.Table.{slot}
 use Rattle.heap.specs.declared.fault.Fault.{Fault}
-use Rattle.heap.specs.declared.value.Opt.{Opt}
 use Rattle.heap.specs.declared.object.CoroState.{CoroState}
 use Rattle.model.specs.Program.{Setup}
 use Rattle.model.specs.Object.{Object}
@@ -65,10 +64,8 @@ use Rattle.model.specs.Compute.{computed}
 use Rattle.model.specs.declared.machine.Cont.{Cont}
 use Rattle.model.specs.declared.machine.Driver.{Driver}
 use Rattle.model.specs.declared.machine.Stop.{Stop}
-use Rattle.model.specs.declared.machine.Outcome.{Outcome}
 use Rattle.model.specs.declared.exec.Step.{Step}
 use Rattle.heap.specs.declared.heap.ResultKind.{ResultKind}
-use Rattle.model.specs.declared.call.OptPc.{OptPc}
 use Rattle.model.specs.declared.call.Op.{Op}
 use Rattle.model.specs.declared.call.Answer.{Answer}
 ";
@@ -86,12 +83,8 @@ fn words(xs: &[u64]) -> String {
     list(xs, u64::to_string)
 }
 
-fn option(x: Option<u64>) -> String {
-    x.map_or("Opt.None".into(), |x| format!("(Opt.Some {x})"))
-}
-
-fn option_pc(x: Option<u32>) -> String {
-    x.map_or("OptPc.None".into(), |x| format!("(OptPc.Some {x})"))
+fn option(x: Option<impl Display>) -> String {
+    x.map_or("None".into(), |x| format!("(Some {x})"))
 }
 
 fn fault(n: u8, w: u64) -> String {
@@ -176,10 +169,6 @@ fn stop(s: Stop) -> String {
     }
 }
 
-fn outcome(o: Option<Stop>) -> String {
-    o.map_or("Outcome.None".into(), |s| format!("(Outcome.Some {})", stop(s)))
-}
-
 fn func(f: &Func) -> String {
     let handlers = list(&f.handlers, |h| {
         format!(
@@ -236,7 +225,7 @@ fn world(w: &World, old: Option<(&str, &World)>) -> String {
         ("ready", words(&w.ready)),
         ("finalize", words(&w.cleanup)),
         ("finalizing", w.finalizing.to_string()),
-        ("outcome", outcome(w.outcome)),
+        ("outcome", option(w.outcome.map(stop))),
         ("used", w.used.to_string()),
         ("seq", w.seq.to_string()),
         ("fuel", fuel(w)),
@@ -278,7 +267,7 @@ pub(super) fn operation(k: &Call) -> Option<String> {
             format!("Op.Finish ResultKind.{kind} {word}")
         }
         Call::Unwind { fault: n, word, pc } => {
-            format!("Op.Unwind {} {}", fault(*n, *word), option_pc(*pc))
+            format!("Op.Unwind {} {}", fault(*n, *word), option(*pc))
         }
         Call::SpawnTask { word } => format!("Op.SpawnTask {word}"),
         Call::SetUp(_) => return None,
@@ -311,16 +300,16 @@ pub(super) fn answer(k: &Call, a: &Answer) -> String {
     let taken = a.taken;
     let refusal = fault(a.number, a.word);
     let stepped = |s: String| format!("Answer.Stepped {s} {taken}");
-    let took = |s: Stop| format!("Answer.Took {}", outcome(Some(s)));
+    let took = |s: Stop| format!("Answer.Took (Some {})", stop(s));
     match (a.case, a.step) {
         (Case::Cleanup, _) => format!("Answer.Cleanup {taken}"),
         (Case::Made, _) => format!("Answer.Unpaid {taken}"),
         (Case::Caught, _) => "Answer.Caught".into(),
         (Case::Stopped, _) => "Answer.Stopped".into(),
         (Case::Resume, _) => "Answer.Resume".into(),
-        (Case::Exit, _) => "Answer.Exit Opt.None".into(),
-        (Case::ExitWord, _) => format!("Answer.Exit (Opt.Some {})", a.word),
-        (Case::NoOutcome, _) => "Answer.Took Outcome.None".into(),
+        (Case::Exit, _) => "Answer.Exit None".into(),
+        (Case::ExitWord, _) => format!("Answer.Exit (Some {})", a.word),
+        (Case::NoOutcome, _) => "Answer.Took None".into(),
         (Case::Yielded, _) => took(Stop::Yielded(a.word)),
         (Case::Awaiting, _) => took(Stop::Awaiting(a.word)),
         (Case::Returned, _) => took(Stop::Returned(a.word)),

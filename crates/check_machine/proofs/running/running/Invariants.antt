@@ -6,6 +6,3 @@ use Rattle.check_machine.proofs.running.running.Given as goal
 
 abbrev pub invariant-loop-k : goal.invariant-loop-k
 invariant-loop-k l = Passed (slots_of l.count l.slots) l.chain l.n l.k l.seen
-
-abbrev pub decreases-loop-k : goal.decreases-loop-k
-decreases-loop-k l = l.n - l.k

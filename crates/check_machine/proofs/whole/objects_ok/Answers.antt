@@ -30,14 +30,11 @@ After-struct_known-1 = lts.After-struct_known tie.the-claims reads.Pre reads.Pos
 abbrev Else-not-rest_ok : Type 0
 Else-not-rest_ok = lts.Else1 tie.the-claims reads.Pre reads.Post
 
-abbrev Else-not-r : Type 0
-Else-not-r = lts.Else2 tie.the-claims reads.Pre reads.Post
-
 abbrev After-rows_ok : Type 0
 After-rows_ok = lts.After-rows_ok tie.the-claims reads.Pre reads.Post
 
 abbrev Else-not-rows_ok : Type 0
-Else-not-rows_ok = lts.Else3 tie.the-claims reads.Pre reads.Post
+Else-not-rows_ok = lts.Else2 tie.the-claims reads.Pre reads.Post
 
 -- `objects_ok` meets its contract: each test fails the whole, and the last decides it. Assumes nothing.
 abbrev run : Start → Bool
@@ -72,20 +69,20 @@ begun c =
     }
 
 -- the set has the chain's slots
-rows_are : (c : After-rows_ok) → c.running-r.result.good ≡ true → (t : Bool) → c.rows_ok.result ≡ t → (ranges c.before.before.before.before.before.before.before.before.before.before.before.before.before.before && rows c.before.before.before.before.before.before.before.before.before.before.before.before.before.before) ≡ t
-rows_are c g t e =
-    let same : in_set c.running-r.result.set ≡ chained_at c.args.chain.now c.args.m.active =
-    λ j x. c.running-r.ensures.set g x j in
-    sym (ap (λ (f : ℕ → Bool). ranges c.before.before.before.before.before.before.before.before.before.before.before.before.before.before && rows-by c.before.before.before.before.before.before.before.before.before.before.before.before.before.before f) same) ∙ sym c.rows_ok.ensures ∙ e
+rows_are : (c : After-rows_ok) → (t : Bool) → c.rows_ok.result ≡ t → (ranges c.before.before.before.before.before.before.before.before.before.before.before.before && rows c.before.before.before.before.before.before.before.before.before.before.before.before) ≡ t
+rows_are c t e =
+    let same : in_set c.in-Some.set ≡ chained_at c.args.chain.now c.args.m.active =
+    λ j x. c.in-Some.ensures.set x j in
+    sym (ap (λ (f : ℕ → Bool). ranges c.before.before.before.before.before.before.before.before.before.before.before.before && rows-by c.before.before.before.before.before.before.before.before.before.before.before.before f) same) ∙ sym c.rows_ok.ensures ∙ e
 
 passed-1 : (c : Else-not-rest_ok) → Passed 1 c.before.before.before.before.before.before.before.before
 passed-1 c = pass (begun c.before.before) (sym c.rest_ok.ensures ∙ c.if-not-rest_ok.false)
 
-passed-2 : (c : Else-not-r) → c.running-r.result.good ≡ true → Passed 2 c.before.before.before.before.before.before.before.before.before.before.before
-passed-2 c g = pass (passed-1 c.before.before.before) (sym c.running-r.ensures.good ∙ g)
+passed-2 : (c : After-rows_ok) → Passed 2 c.before.before.before.before.before.before.before.before.before.before.before.before
+passed-2 c = pass (passed-1 c.before.before.before.before) (sym c.in-Some.ensures.good)
 
-passed-3 : (c : Else-not-rows_ok) → c.running-r.result.good ≡ true → Passed 3 c.before.before.before.before.before.before.before.before.before.before.before.before.before.before.before
-passed-3 c g = pass (passed-2 c.before.before.before.before g) (rows_are c.before g true c.if-not-rows_ok.false)
+passed-3 : (c : Else-not-rows_ok) → Passed 3 c.before.before.before.before.before.before.before.before.before.before.before.before.before
+passed-3 c = pass (passed-2 c.before) (rows_are c.before true c.if-not-rows_ok.false)
 
 pub overflow_mul-m : goal.overflow_mul-m
 overflow_mul-m c = omega (arith, c.requires.table)
@@ -93,11 +90,11 @@ overflow_mul-m c = omega (arith, c.requires.table)
 pub returns-then-not-rest_ok : goal.returns-then-not-rest_ok
 returns-then-not-rest_ok c = stop (begun c.before.before.before) (sym c.rest_ok.ensures ∙ c.if-not-rest_ok.true)
 
-pub running-r-requires : goal.running-r-requires
-running-r-requires c = let p = c.requires in record { on_chain = p.on_chain; table = p.table; few = p.few }
+pub running-requires : goal.running-requires
+running-requires c = let p = c.requires in record { on_chain = p.on_chain; table = p.table; few = p.few }
 
-pub returns-then-not-r : goal.returns-then-not-r
-returns-then-not-r c = stop (passed-1 c.before.before.before.before) (sym c.running-r.ensures.good ∙ not-true _ c.if-not-r.true)
+pub returns-in_default : goal.returns-in_default
+returns-in_default c = stop (passed-1 c.before.before.before) (sym c.in_default.ensures.good)
 
 pub rows_ok-requires : goal.rows_ok-requires
 rows_ok-requires c =
@@ -107,20 +104,20 @@ rows_ok-requires c =
           record {
             saved = record
                 { on-stack = p.on-stack; on-frames = p.on-frames; few = p.rows; deep = p.deep; wide = p.wide; catches = p.catches; numbers = p.numbers };
-            long = c.running-r.ensures.long;
+            long = c.in-Some.ensures.long;
           };
       table = p.table;
       few = p.few;
     }
 
 pub returns-then-not-rows_ok : goal.returns-then-not-rows_ok
-returns-then-not-rows_ok c = stop (passed-2 c.before.before.before.before.before (not-false _ c.if-not-r.false)) (rows_are c.before.before (not-false _ c.if-not-r.false) false c.if-not-rows_ok.true)
+returns-then-not-rows_ok c = stop (passed-2 c.before.before) (rows_are c.before.before false c.if-not-rows_ok.true)
 
 pub overflow_mul-sizes : goal.overflow_mul-sizes
 overflow_mul-sizes c = omega (arith, c.requires.on-stack)
 
 pub returns-then-not-rest_ok-2 : goal.returns-then-not-rest_ok-2
-returns-then-not-rest_ok-2 c = stop (passed-3 c.before.before.before.before (not-false _ c.if-not-r.false)) (sym c.rest_ok-2.ensures ∙ c.if-not-rest_ok-2.true)
+returns-then-not-rest_ok-2 c = stop (passed-3 c.before.before.before.before) (sym c.rest_ok-2.ensures ∙ c.if-not-rest_ok-2.true)
 
 pub overflow_mul-sizes-2 : goal.overflow_mul-sizes-2
 overflow_mul-sizes-2 c = omega (arith, c.requires.deep)
@@ -129,4 +126,4 @@ pub overflow_mul-sizes-3 : goal.overflow_mul-sizes-3
 overflow_mul-sizes-3 c = omega (arith, c.requires.on-frames)
 
 pub returns : goal.returns
-returns c = last (pass (passed-3 c.before.before.before.before.before.before.before (not-false _ c.if-not-r.false)) (sym c.rest_ok-2.ensures ∙ c.if-not-rest_ok-2.false)) c.rest_ok-3.ensures
+returns c = last (pass (passed-3 c.before.before.before.before.before.before.before) (sym c.rest_ok-2.ensures ∙ c.if-not-rest_ok-2.false)) c.rest_ok-3.ensures

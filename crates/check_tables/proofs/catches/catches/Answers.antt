@@ -40,8 +40,8 @@ bounds-setup-at c = omega (arith, turn c.before.before)
 pub overflow_add-at-in-loop-i : goal.overflow_add-at-in-loop-i
 overflow_add-at-in-loop-i c = omega (arith, turn c.before.before)
 
-pub widest_catch-w-requires : goal.widest_catch-w-requires
-widest_catch-w-requires c = (turn c.before.before).fits
+pub widest_catch-requires : goal.widest_catch-requires
+widest_catch-requires c = (turn c.before.before).fits
 
 pub offset_bounds-need-i : goal.offset_bounds-need-i
 offset_bounds-need-i c = omega (arith, turn c.before.before.before)
@@ -49,13 +49,10 @@ offset_bounds-need-i c = omega (arith, turn c.before.before.before)
 pub bounds-need-i : goal.bounds-need-i
 bounds-need-i c = omega (arith, turn c.before.before.before)
 
-pub overflow_add-i : goal.overflow_add-i
-overflow_add-i c = omega (arith, (setup-facts c.args.setup.now c.requires).few)
-
 pub loop-i-preserved : goal.loop-i-preserved
 loop-i-preserved c =
     let k = turn c.before.before.before in let ws = c.args.setup.now in
-    (omega arith, simp length-set c.loop-i.invariant.1, kept ws c.loop-i.need c.loop-i.i c.widest_catch-w.result (omega arith) c.loop-i.invariant.2 c.widest_catch-w.ensures)
+    (omega arith, simp length-set c.loop-i.invariant.1, kept ws c.loop-i.need c.loop-i.i c.widest_catch.result (omega arith) c.loop-i.invariant.2 c.widest_catch.ensures)
 
 pub returns : goal.returns
 returns c =

@@ -7,6 +7,3 @@ use Rattle.check_tables.proofs.catches.catches.Given as goal
 
 abbrev pub invariant-loop-i : goal.invariant-loop-i
 invariant-loop-i l = (l.i ≤ l.n) × (length l.need ≡ 32) × ((j : ℕ) → j < l.i → get_or l.need j 0 ≡ width l.setup j)
-
-abbrev pub decreases-loop-i : goal.decreases-loop-i
-decreases-loop-i l = l.n - l.i

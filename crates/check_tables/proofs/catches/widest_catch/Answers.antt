@@ -29,7 +29,7 @@ overflow_add-c-in-loop-j-2 c = omega (arith, c.requires.small (c.loop-j.j - 1) (
 pub loop-j-preserved : goal.loop-j-preserved
 loop-j-preserved c =
     let a = c.args in let ws = a.setup.now in
-    (omega arith, c.larger-most.ensures ∙ one_more ws a.at a.n c.requires.few c.loop-j.j c.loop-j.most c.loop-j-test.true (omega arith) c.loop-j.invariant.1)
+    (omega arith, c.max-most.ensures ∙ one_more ws a.at a.n c.requires.few c.loop-j.j c.loop-j.most c.loop-j-test.true (omega arith) c.loop-j.invariant.1)
 
 pub returns : goal.returns
 returns c = let a = c.args in let ws = a.setup.now in all_done ws a.at a.n c.requires.few c.loop-j.j c.loop-j.most c.loop-j-test.false c.loop-j.invariant.1

@@ -8,6 +8,3 @@ use Rattle.check_tables.proofs.catches.widest_catch.Given as goal
 
 abbrev pub invariant-loop-j : goal.invariant-loop-j
 invariant-loop-j l = (l.j ≤ l.n) × (l.most ≡ catch_width (drop l.j (take l.n (handlers_from 8 l.setup l.at))))
-
-abbrev pub decreases-loop-j : goal.decreases-loop-j
-decreases-loop-j l = l.j

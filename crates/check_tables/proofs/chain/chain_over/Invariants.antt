@@ -6,6 +6,3 @@ use Rattle.check_tables.proofs.chain.chain_over.Given as goal
 
 abbrev pub invariant-loop-i : goal.invariant-loop-i
 invariant-loop-i l = (l.i ≤ l.depth) × (l.k ≤ l.n) × (chain_test l.chain l.frames l.depth l.n ≡ chain_test l.chain l.frames l.i l.k)
-
-abbrev pub decreases-loop-i : goal.decreases-loop-i
-decreases-loop-i l = l.i

@@ -7,6 +7,3 @@ use Rattle.check_tables.proofs.frames.frames_over.Given as goal
 
 abbrev pub invariant-loop-i : goal.invariant-loop-i
 invariant-loop-i l = (l.i ≤ l.n) × (frames_test l.saved (setup_of l.setup) l.ws l.n l.end ≡ frames_test l.saved (setup_of l.setup) l.ws l.i l.e)
-
-abbrev pub decreases-loop-i : goal.decreases-loop-i
-decreases-loop-i l = l.i

@@ -5,6 +5,3 @@ use Rattle.check_tables.proofs.queue.entries_ok.Given as goal
 
 abbrev pub invariant-loop-i : goal.invariant-loop-i
 invariant-loop-i l = Entries l.task l.slots l.q l.n l.count l.seen l.i
-
-abbrev pub decreases-loop-i : goal.decreases-loop-i
-decreases-loop-i l = l.i

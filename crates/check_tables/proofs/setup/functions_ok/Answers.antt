@@ -1,31 +1,13 @@
--- `functions_ok` meets its contract: the functions passed so far are in order. Assumes nothing.
-use mathlib.Core.Path.{◌≡◌, refl, sym, ◌∙◌, subst}
-use mathlib.Core.Bool.{Bool, true}
-use mathlib.Core.List.{List}
-use Prim.Native.Nat.{ℕ, ◌+◌, ◌-◌, ◌*◌}
-use native.Mathlib.Omega.{arith}
-use borrow.Author.Tests.{not-true, not-false}
-use Rattle.lists.specs.Tests.{all_below}
-use Rattle.lists.proofs.Tests.{fails-at, holds-next}
+-- `functions_ok` meets its contract: each function is tested. Assumes nothing.
+use Rattle.std.proofs.Common.{rules, tests, arith, refl, ◌∙◌, ◌+◌, ◌*◌}
+use Rattle.std.proofs.lemmas.Iterator.{YieldsList-from_range}
+use Rattle.std.proofs.lemmas.Iterator.Search.{all_from_yields_List}
 use Rattle.check_tables.specs.Setup.{function_test}
+use Rattle.check_tables.proofs.Ranged.{all-range}
 use Rattle.check_tables.proofs.setup.functions_ok.Goals as goal
-use Rattle.check_tables.proofs.setup.functions_ok.Invariants.{test}
-
-pub loop-i-init : goal.loop-i-init
-loop-i-init c = (omega arith, refl)
-
-pub returns-then-not-function_ok : goal.returns-then-not-function_ok
-returns-then-not-function_ok c =
-    let a = c.args in
-    sym (fails-at a.n c.loop-i.i (test a.setup.now) c.loop-i-test.true (sym c.function_ok.ensures ∙ c.if-not-function_ok.true))
-
-pub loop-i-preserved : goal.loop-i-preserved
-loop-i-preserved c =
-    let a = c.args in
-    (omega arith, holds-next c.loop-i.i (test a.setup.now) c.loop-i.invariant.1 (sym c.function_ok.ensures ∙ c.if-not-function_ok.false))
 
 pub returns : goal.returns
 returns c =
     let a = c.args in
-    let e : c.loop-i.i ≡ a.n = omega arith in
-    sym (subst (λ k. all_below k (test a.setup.now) ≡ true) e c.loop-i.invariant.1)
+    all_from_yields_List (λ i. function_test a.setup.now (14 + i * 35)) _ _ _ c.all.ensures.ran (YieldsList-from_range 0 a.n a.n refl (omega arith)) (λ x b q k. search (rules, tests))
+    ∙ all-range a.n _

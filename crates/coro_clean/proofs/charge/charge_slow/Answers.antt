@@ -1,7 +1,7 @@
 -- `charge_slow` meets the definition, by the fuel taken back and whether cleanups are ready. Assumes nothing.
 use mathlib.Core.Path.{sym, ap, ◌∙◌}
 use Rattle.model.specs.Fuel.{unbank}
-use Rattle.model.specs.declared.call.OptPc.{OptPc}
+use Rattle.std.specs.Prelude.{Some}
 use Rattle.model.specs.declared.machine.Fuel.{Fuel}
 use Rattle.memory_world.specs.Memory.{Lent, Beside}
 use Rattle.memory_world.specs.Lendings.{cleaning, plain}
@@ -23,7 +23,7 @@ mem c b = cleaning c.args.stack.now c.args.frames.now c.args.chain.now c.args.sl
 pub returns-then-f-eq0 : goal.returns-then-f-eq0
 returns-then-f-eq0 c =
     λ w b rep snd. slow-spent c.args.sizes (mem c.before.before.before.before.before.before.before.before.before.before.before b) c.args.m c.args.fuel w rep c.unbank-f.result c.unbank-f.ensures
-    (OptPc.Some c.args.pc) c.if-f-eq0.true
+    (Some c.args.pc) c.if-f-eq0.true
 
 pub charge_ready-requires : goal.charge_ready-requires
 charge_ready-requires c =
@@ -42,7 +42,7 @@ returns-then-f c =
     λ w b rep snd.
     let f = c.unbank-f.result in
     let again = back-rep c.args.sizes (mem c.before.before.before.before.before.before.before.before.before.before.before.before.before.before.before.before.before.before.before.before.before.before.before.before.before.before.before.before.before.before.before.before.before.before b) c.args.m c.args.fuel w rep f c.unbank-f.ensures in
-    slow-paid c.args.sizes (mem c.before.before.before.before.before.before.before.before.before.before.before.before.before.before.before.before.before.before.before.before.before.before.before.before.before.before.before.before.before.before.before.before.before.before b) c.args.m c.args.fuel w rep f c.unbank-f.ensures (OptPc.Some c.args.pc) _ _ _ _ c.if-f-eq0.false
+    slow-paid c.args.sizes (mem c.before.before.before.before.before.before.before.before.before.before.before.before.before.before.before.before.before.before.before.before.before.before.before.before.before.before.before.before.before.before.before.before.before.before b) c.args.m c.args.fuel w rep f c.unbank-f.ensures (Some c.args.pc) _ _ _ _ c.if-f-eq0.false
     (at_ready c.args.sizes _ _ _ c.args.pc (unbank w) _ (sym (ap (λ (x : Fuel). x.ready) again.fuel) ∙ c.if-f.true)
     (c.charge_ready.ensures (unbank w) b again (unbank-sounds w snd)))
 
@@ -51,7 +51,7 @@ returns c =
     λ w b rep snd.
     let f = c.unbank-f.result in
     let again = back-rep c.args.sizes (mem c.before.before.before.before.before.before.before.before.before.before.before.before.before.before b) c.args.m c.args.fuel w rep f c.unbank-f.ensures in
-    slow-paid c.args.sizes (mem c.before.before.before.before.before.before.before.before.before.before.before.before.before.before b) c.args.m c.args.fuel w rep f c.unbank-f.ensures (OptPc.Some c.args.pc) (mem c.before.before.before.before.before.before.before.before.before.before.before.before.before.before b)
+    slow-paid c.args.sizes (mem c.before.before.before.before.before.before.before.before.before.before.before.before.before.before b) c.args.m c.args.fuel w rep f c.unbank-f.ensures (Some c.args.pc) (mem c.before.before.before.before.before.before.before.before.before.before.before.before.before.before b)
     c.args.m _ _ c.if-f-eq0.false
     (at-idle c.args.sizes (mem c.before.before.before.before.before.before.before.before.before.before.before.before.before.before b) c.args.m _ c.args.pc (unbank w) _ (sym (ap (λ (x : Fuel). x.ready) again.fuel) ∙ c.if-f.false)
     (c.charge_done-did.ensures c.args.m c.args.sizes (unbank w) (record { words = mem c.before.before.before.before.before.before.before.before.before.before.before.before.before.before b; fuel = f }) again))

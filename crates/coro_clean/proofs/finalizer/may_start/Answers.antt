@@ -1,49 +1,38 @@
 -- `may_start` meets its contract: no coroutine, one that is not suspended, one that is. Assumes nothing.
 use mathlib.Core.Path.{◌≡◌, sym, ap, ◌∙◌}
+use mathlib.Core.List.{List}
 use Prim.Native.Nat.{ℕ}
-use borrow.Author.Tests.{not-true, not-false}
-use Rattle.heap.specs.Heap.{slots_of, coro_of}
-use Rattle.heap.specs.declared.heap.Coroutine.TheVariants as RV
+use Rattle.heap.specs.Heap.{slots_of, coro_of, place_of, coro_in}
+use Rattle.heap.specs.declared.object.CoroObj.{CoroObj}
+use Rattle.std.specs.Prelude.{Ok}
 use Rattle.heap.proofs.Place.{none-there, stands, stands-words}
 use Rattle.coro_clean.proofs.Search.{starts-not, starts-not-suspended, starts-suspended}
-use lib.Dec.{eqb}
-use Rattle.coro_clean.proofs.finalizer.may_start.Lts as lts
-use Rattle.coro_clean.proofs.finalizer.may_start.Reads as reads
-use Rattle.coro_clean.proofs.finalizer.may_start.Tie as tie
 use Rattle.coro_clean.proofs.finalizer.may_start.Goals as goal
 
-abbrev In-At : Type 0
-In-At = lts.Past-After-known_told tie.the-claims reads.Pre reads.Post
-
-abbrev After-coro_at-c : Type 0
-After-coro_at-c = lts.After-coro_at tie.the-claims reads.Pre reads.Post
-
--- `may_start` meets its contract: no coroutine, one that is not suspended, one that is. Assumes nothing.
--- where a coroutine was found
-abbrev slot : In-At → ℕ
-slot c = c.in-At.i
-
-found : (c : After-coro_at-c) →
-    RV.At (slot c.before) c.coro_at-c.result ≡ coro_of (slots_of c.args.m.count c.args.slots.now) c.args.v.0
-found c =
-    ap (RV.At (slot c.before)) c.coro_at-c.ensures
-    ∙ (stands c.args.m.count c.args.slots.now c.args.v.0 (slot c.before) (sym c.in-At.is ∙ c.coro_place.ensures)).coro
+-- the coroutine that was found, with its record
+found : (n : ℕ) (ws : List ℕ) (v i : ℕ) (o : CoroObj) → Ok i ≡ place_of (coro_of (slots_of n ws) v) → o ≡ coro_in ws i → Ok (i, o) ≡ coro_of (slots_of n ws) v
+found n ws v i o e p = ap (λ x. Ok (i, x)) p ∙ (stands n ws v i e).coro
 
 pub coro_at-c-requires : goal.coro_at-c-requires
-coro_at-c-requires c = stands-words c.args.m.count c.args.slots.now c.args.v.0 (slot c.before) (sym c.in-At.is ∙ c.coro_place.ensures) c.requires.table
+coro_at-c-requires c = stands-words c.args.m.count c.args.slots.now c.args.v.0 c.in-Ok.i (sym c.in-Ok.is ∙ c.coro_place.ensures) c.requires.table
 
 pub returns-then-not-is_suspended : goal.returns-then-not-is_suspended
 returns-then-not-is_suspended c =
-    starts-not-suspended c.args.slots.now c.args.m c.args.sizes c.args.v.0 (slot c.before.before.before.before) c.coro_at-c.result (found c.before.before.before)
+    let a = c.args in
+    starts-not-suspended a.slots.now a.m a.sizes a.v.0 c.in-Ok.i c.coro_at-c.result
+    (found a.m.count a.slots.now a.v.0 c.in-Ok.i c.coro_at-c.result (sym c.in-Ok.is ∙ c.coro_place.ensures) c.coro_at-c.ensures)
     (sym c.is_suspended.ensures ∙ c.if-not-is_suspended.true)
 
-pub returns-in-Not : goal.returns-in-Not
-returns-in-Not c =
+pub returns-in-Err : goal.returns-in-Err
+returns-in-Err c =
     starts-not c.args.slots.now c.args.m c.args.sizes c.args.v.0 _
-    (none-there (coro_of (slots_of c.args.m.count c.args.slots.now) c.args.v.0) _ (sym c.in-Not.is ∙ c.coro_place.ensures))
+    (none-there (coro_of (slots_of c.args.m.count c.args.slots.now) c.args.v.0) _ (sym c.in-Err.is ∙ c.coro_place.ensures))
 
 pub returns-else-not-is_suspended : goal.returns-else-not-is_suspended
 returns-else-not-is_suspended c =
-    ap (λ n. eqb n 0) c.number.ensures
-    ∙ starts-suspended c.args.slots.now c.args.m c.args.sizes c.args.v.0 (slot c.before.before.before.before.before.before) c.coro_at-c.result (found c.before.before.before.before.before) c.refusal-f.result
-    (sym c.is_suspended.ensures ∙ c.if-not-is_suspended.false) c.refusal-f.ensures
+    let a = c.args in
+    c.is_ok.ensures.value
+    ∙ starts-suspended a.slots.now a.m a.sizes a.v.0 c.in-Ok.i c.coro_at-c.result
+    (found a.m.count a.slots.now a.v.0 c.in-Ok.i c.coro_at-c.result (sym c.in-Ok.is ∙ c.coro_place.ensures) c.coro_at-c.ensures)
+    c.refusal.result
+    (sym c.is_suspended.ensures ∙ c.if-not-is_suspended.false) c.refusal.ensures

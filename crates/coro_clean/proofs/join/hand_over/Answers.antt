@@ -37,16 +37,16 @@ mem c b = cleanups c.args.slots.now c.args.finalize.now plain b
 
 -- where a coroutine was found
 abbrev slot : In-At → ℕ
-slot c = c.in-At.i
+slot c = c.in-Ok.i
 
 fits : (c : In-At) → SlotFits c.args.slots.now (slot c)
 fits c =
-    stands-words c.args.m.count c.args.slots.now c.args.v.0 (slot c) (sym c.in-At.is ∙ c.coro_place.ensures) c.requires.ok.rep.slots.within
+    stands-words c.args.m.count c.args.slots.now c.args.v.0 (slot c) (sym c.in-Ok.is ∙ c.coro_place.ensures) c.requires.ok.rep.slots.within
 
 found : (c : In-At) (l : Sizes) (w : World) (b : Beside) (f : Fuel) →
     Rep l w (mem c.before.before.before.before b) c.args.m f → Hands l (mem c.before.before.before.before b) c.args.m f c.args.v.0 w (slot c)
 found c l w b f rep =
-    hands-at l (mem c.before.before.before.before b) c.args.m f c.args.v.0 w rep (slot c) (sym c.in-At.is ∙ c.coro_place.ensures)
+    hands-at l (mem c.before.before.before.before b) c.args.m f c.args.v.0 w rep (slot c) (sym c.in-Ok.is ∙ c.coro_place.ensures)
 
 -- it is suspended or not, and handed over before or not
 suspended-at : (c : After-is_suspended) → is_suspended (coro_in c.args.slots.now (slot c.before.before)).state ≡ c.is_suspended.result
@@ -84,11 +84,11 @@ push_back-requires c = room c.before.before.before.before.before.before
 pub overflow_add-n : goal.overflow_add-n
 overflow_add-n c = omega (arith, room c.before.before.before.before.before.before.before.before.before.before, c.well_formed)
 
-pub returns-in-Not : goal.returns-in-Not
-returns-in-Not c =
+pub returns-in-Err : goal.returns-in-Err
+returns-in-Err c =
     λ l w b rep.
     hand-refused l (mem c.before.before.before.before.before b) c.args.m c.args.fuel c.args.v.0 w rep _
-    (none-there (coro_of (slots_of c.args.m.count c.args.slots.now) c.args.v.0) _ (sym c.in-Not.is ∙ c.coro_place.ensures))
+    (none-there (coro_of (slots_of c.args.m.count c.args.slots.now) c.args.v.0) _ (sym c.in-Err.is ∙ c.coro_place.ensures))
 
 pub returns-else-finalized_at : goal.returns-else-finalized_at
 returns-else-finalized_at c =

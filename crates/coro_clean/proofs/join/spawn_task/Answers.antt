@@ -35,16 +35,16 @@ mem c b = tasks c.args.slots.now c.args.ready.now plain b
 
 -- where a coroutine was found
 abbrev slot : In-At → ℕ
-slot c = c.in-At.i
+slot c = c.in-Ok.i
 
 fits : (c : In-At) → SlotFits c.args.slots.now (slot c)
 fits c =
-    stands-words c.args.m.count c.args.slots.now c.args.v.0 (slot c) (sym c.in-At.is ∙ c.coro_place.ensures) c.requires.ok.rep.slots.within
+    stands-words c.args.m.count c.args.slots.now c.args.v.0 (slot c) (sym c.in-Ok.is ∙ c.coro_place.ensures) c.requires.ok.rep.slots.within
 
 found : (c : In-At) (l : Sizes) (w : World) (b : Beside) →
     Rep l w (mem c.before.before.before.before b) c.args.m b.fuel → Tasks l (mem c.before.before.before.before b) c.args.m b.fuel c.args.v.0 w (slot c)
 found c l w b rep =
-    tasks-at l (mem c.before.before.before.before b) c.args.m b.fuel c.args.v.0 w rep (slot c) (sym c.in-At.is ∙ c.coro_place.ensures)
+    tasks-at l (mem c.before.before.before.before b) c.args.m b.fuel c.args.v.0 w rep (slot c) (sym c.in-Ok.is ∙ c.coro_place.ensures)
 
 -- it can be resumed or not
 resumable : (c : After-is_resumable) →
@@ -83,11 +83,11 @@ push_back-requires c = room c.before.before.before.before.before.before
 pub overflow_add-n : goal.overflow_add-n
 overflow_add-n c = omega (arith, room c.before.before.before.before.before.before.before.before.before.before, c.well_formed)
 
-pub returns-in-Not : goal.returns-in-Not
-returns-in-Not c =
+pub returns-in-Err : goal.returns-in-Err
+returns-in-Err c =
     λ l w b rep.
     task-refused l (mem c.before.before.before.before.before b) c.args.m b.fuel c.args.v.0 w rep _
-    (none-there (coro_of (slots_of c.args.m.count c.args.slots.now) c.args.v.0) _ (sym c.in-Not.is ∙ c.coro_place.ensures))
+    (none-there (coro_of (slots_of c.args.m.count c.args.slots.now) c.args.v.0) _ (sym c.in-Err.is ∙ c.coro_place.ensures))
 
 pub returns-else-not-is_resumable : goal.returns-else-not-is_resumable
 returns-else-not-is_resumable c =

@@ -5,7 +5,7 @@ use Rattle.memory_world.specs.Memory.{Lent, Beside}
 use Rattle.machine_state.specs.Numbers.{heap_of}
 use Rattle.memory_world.specs.Lendings.{making, plain}
 use Rattle.coro_create.specs.Create.{spot_of}
-use Rattle.coro_create.specs.declared.create.Spot.{Spot}
+use Rattle.std.specs.Prelude.{Ok}
 use Rattle.coro_create.proofs.Setting.{Numbers, in-setup, numbers}
 use Rattle.coro_create.proofs.Creation.{alloc_told, write-fits, not-created, not-charged, was-created}
 use Rattle.coro_create.proofs.create.coro_create.Lts as lts
@@ -33,11 +33,11 @@ room c = let z = c.requires.ok.rep.sizes.slots in let r = c.requires.ok.room.slo
 
 -- the row that was found
 abbrev row : In-Row → ℕ
-row c = c.in-Row.row
+row c = c.in-Ok.row
 
 found : (c : In-Row) →
-    let a = c.args in Spot.Row (row c) ≡ spot_of (slots_of a.m.count a.slots.now) a.m a.sizes c.regs_at-regs.result
-found c = sym c.in-Row.is ∙ c.find_spot.ensures
+    let a = c.args in Ok (row c) ≡ spot_of (slots_of a.m.count a.slots.now) a.m a.sizes c.regs_at-regs.result
+found c = sym c.in-Ok.is ∙ c.find_spot.ensures
 
 told : (c : After-regs_at-regs) → Numbers c.args.sizes c.regs_at-regs.result
 told c =
@@ -67,27 +67,27 @@ write_row-requires c =
     write-fits a.sizes (mem c.before.before.before.before.before.before.before.before.before.before.before.before.before.before.before.before.before.before.before.before o.beside) a.m o.beside.fuel o.world o.rep o.sound a.f a.closure a.n c.regs_at-regs.result a.args
     (few c.before.before.before.before.before.before.before.before.before.before.before.before.before.before.before.before.before.before.before.before) c.requires.function c.regs_at-regs.ensures (row c.before.before.before.before.before.before.before.before.before.before.before.before.before) (found c.before.before.before.before.before.before.before.before.before.before.before.before.before) c.requires.few
 
-pub returns-in-Lacks : goal.returns-in-Lacks
-returns-in-Lacks c =
+pub returns-in-Err : goal.returns-in-Err
+returns-in-Err c =
     let a = c.args in
     λ w b rep snd.
     not-created a.sizes (mem c.before.before.before.before.before.before.before.before b) a.m b.fuel w rep snd a.f a.closure a.n c.regs_at-regs.result a.args
-    (few c.before.before.before.before.before.before.before.before) c.requires.function c.regs_at-regs.ensures _ (sym c.in-Lacks.is ∙ c.find_spot.ensures)
+    (few c.before.before.before.before.before.before.before.before) c.requires.function c.regs_at-regs.ensures _ (sym c.in-Err.is ∙ c.find_spot.ensures)
 
-pub returns-in-Refused : goal.returns-in-Refused
-returns-in-Refused c =
+pub returns-in-Err-alloc : goal.returns-in-Err-alloc
+returns-in-Err-alloc c =
     let a = c.args in
     λ w b rep snd.
     not-charged a.sizes (mem c.before.before.before.before.before.before.before.before.before.before.before.before.before.before.before.before.before.before b) a.m b.fuel w rep snd a.f a.closure a.n c.regs_at-regs.result a.args
     (few c.before.before.before.before.before.before.before.before.before.before.before.before.before.before.before.before.before.before) c.requires.function c.regs_at-regs.ensures (row c.before.before.before.before.before.before.before.before.before.before.before) (found c.before.before.before.before.before.before.before.before.before.before.before) _ c.sequenced-q.result _ c.sequenced-q.ensures
-    (alloc_told a.slots.now _ _ _ _ _ _ _ _ _ c.alloc.ensures c.in-Refused.is
+    (alloc_told a.slots.now _ _ _ _ _ _ _ _ _ c.alloc.ensures c.in-Err-alloc.is
     (c.heap_of.ensures ∙ ap (λ q. heap_of q a.sizes) c.sequenced-q.ensures) c.bytes-charge.ensures c.new_object.ensures)
 
-pub returns-in-Done : goal.returns-in-Done
-returns-in-Done c =
+pub returns-in-Ok-alloc : goal.returns-in-Ok-alloc
+returns-in-Ok-alloc c =
     let a = c.args in
     λ w b rep snd.
     was-created a.sizes (mem c.before.before.before.before.before.before.before.before.before.before.before.before.before.before.before.before.before.before.before.before.before.before.before.before.before.before b) a.m b.fuel w rep snd a.f a.closure a.n c.regs_at-regs.result a.args
     (few c.before.before.before.before.before.before.before.before.before.before.before.before.before.before.before.before.before.before.before.before.before.before.before.before.before.before) c.requires.function c.regs_at-regs.ensures (row c.before.before.before.before.before.before.before.before.before.before.before.before.before.before.before.before.before.before.before) (found c.before.before.before.before.before.before.before.before.before.before.before.before.before.before.before.before.before.before.before) _ (room c.before.before.before.before.before.before.before.before.before.before.before.before.before.before.before.before.before.before.before.before.before.before.before.before.before.before) c.sequenced-q.result c.allocated.result _ _ _ _
-    c.sequenced-q.ensures c.allocated.ensures (alloc_told a.slots.now _ _ _ _ _ _ _ _ _ c.alloc.ensures c.in-Done.is
+    c.sequenced-q.ensures c.allocated.ensures (alloc_told a.slots.now _ _ _ _ _ _ _ _ _ c.alloc.ensures c.in-Ok-alloc.is
     (c.heap_of.ensures ∙ ap (λ q. heap_of q a.sizes) c.sequenced-q.ensures) c.bytes-charge.ensures c.new_object.ensures) c.write_row.ensures

@@ -12,20 +12,20 @@ encode_int-requires c =
     let p₂ = p.slots in
     record { words = omega arith; slots = omega arith }
 
-pub returns-in-Over : goal.returns-in-Over
-returns-in-Over c =
+pub returns-in-None : goal.returns-in-None
+returns-in-None c =
     λ w b rep snd. key-over c.args.sizes (table c.args.slots.now plain b) c.args.m b.fuel w rep c.args.largest
-    (sym c.in-Over.is ∙ c.next_key.ensures)
+    (sym c.in-None.is ∙ c.next_key.ensures)
 
-pub returns-in-Refused : goal.returns-in-Refused
-returns-in-Refused c =
+pub returns-in-Err : goal.returns-in-Err
+returns-in-Err c =
     λ w b rep snd. key-refused c.args.sizes (table c.args.slots.now plain b) c.args.m b.fuel w rep c.args.largest
-    c.in-Fits.n (sym c.in-Fits.is ∙ c.next_key.ensures) _ c.encode_int.result c.heap_of.result
-    c.encode_int.ensures c.heap_of.ensures _ c.in-Refused.is
+    c.in-Some.n (sym c.in-Some.is ∙ c.next_key.ensures) _ c.encode_int.result c.heap_of.result
+    c.encode_int.ensures c.heap_of.ensures _ c.in-Err.is
 
-pub returns-in-Done : goal.returns-in-Done
-returns-in-Done c =
+pub returns-in-Ok : goal.returns-in-Ok
+returns-in-Ok c =
     λ w b rep snd. key-made c.args.sizes (table c.args.slots.now plain b) c.args.m b.fuel w rep c.args.largest
-    c.in-Fits.n (sym c.in-Fits.is ∙ c.next_key.ensures) _ c.encode_int.result c.heap_of.result
-    c.encode_int.ensures c.heap_of.ensures c.requires.words _ _ c.allocated.result c.in-Done.is
+    c.in-Some.n (sym c.in-Some.is ∙ c.next_key.ensures) _ c.encode_int.result c.heap_of.result
+    c.encode_int.ensures c.heap_of.ensures c.requires.words _ _ c.allocated.result c.in-Ok.is
     c.allocated.ensures

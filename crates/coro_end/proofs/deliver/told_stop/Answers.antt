@@ -1,6 +1,6 @@
 -- `told_stop` meets its contract, by cases of what is told. Assumes nothing.
 use mathlib.Core.Path.{sym, ap}
-use Rattle.model.specs.declared.machine.Outcome.TheVariants.{Some}
+use Rattle.std.specs.Prelude.{Some}
 use Rattle.memory_world.specs.Told.{told}
 use Rattle.coro_end.proofs.deliver.told_stop.Goals as goal
 

@@ -9,17 +9,17 @@ use Rattle.coro_enter.proofs.Closing.{closing-rep}
 use Rattle.coro_enter.proofs.close.set_closing.Goals as goal
 
 pub put_closing-requires : goal.put_closing-requires
-put_closing-requires c = stands-words c.args.m.count c.args.slots.now c.args.v.0 c.in-At.i (sym c.in-At.is ∙ c.coro_place.ensures) c.requires
+put_closing-requires c = stands-words c.args.m.count c.args.slots.now c.args.v.0 c.in-Ok.i (sym c.in-Ok.is ∙ c.coro_place.ensures) c.requires
 
-pub returns-in-Not : goal.returns-in-Not
-returns-in-Not c =
+pub returns-in-Err : goal.returns-in-Err
+returns-in-Err c =
     λ l w b rep.
     rest-absent l (table c.args.slots.now plain b) c.args.m b.fuel c.args.v.0 w rep (close c.args.signal) _
-    (none-there (coro_of (slots_of c.args.m.count c.args.slots.now) c.args.v.0) _ (sym c.in-Not.is ∙ c.coro_place.ensures))
+    (none-there (coro_of (slots_of c.args.m.count c.args.slots.now) c.args.v.0) _ (sym c.in-Err.is ∙ c.coro_place.ensures))
 
-pub returns-in-At : goal.returns-in-At
-returns-in-At c =
+pub returns-in-Ok : goal.returns-in-Ok
+returns-in-Ok c =
     λ l w b rep.
-    closing-rep l (table c.args.slots.now plain b) c.args.m b.fuel c.args.v.0 w rep c.in-At.i
-    (sym c.in-At.is ∙ c.coro_place.ensures) c.args.signal _
+    closing-rep l (table c.args.slots.now plain b) c.args.m b.fuel c.args.v.0 w rep c.in-Ok.i
+    (sym c.in-Ok.is ∙ c.coro_place.ensures) c.args.signal _
     c.put_closing.ensures

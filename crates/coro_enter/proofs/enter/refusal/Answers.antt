@@ -1,6 +1,5 @@
 -- `refusal` meets its contract, by its four tests. Assumes nothing.
 use mathlib.Core.Path.{sym, ◌∙◌}
-use borrow.Author.Tests.{not-true, not-false}
 use Rattle.coro_enter.proofs.Parts.{by_state, by-none, by-depth, by-stack, by-nothing}
 use Rattle.coro_enter.proofs.enter.refusal.Goals as goal
 

@@ -3,7 +3,7 @@ use mathlib.Core.Path.{sym, ap, ◌∙◌}
 use Prim.Native.Nat.{◌≤◌}
 use native.Mathlib.Omega.{arith}
 use Rattle.heap.specs.Heap.{slots_of, coro_of}
-use Rattle.heap.specs.declared.heap.Coroutine.TheVariants as RV
+use Rattle.std.specs.Prelude.{Ok}
 use Rattle.heap.proofs.Place.{none-there, stands, stands-words}
 use Rattle.memory_world.specs.Memory.{Lent, Beside}
 use Rattle.memory_world.specs.Lendings.{lent}
@@ -38,8 +38,8 @@ coro_place-requires c = c.requires.ok.rep.slots.within
 
 pub coro_at-c-requires : goal.coro_at-c-requires
 coro_at-c-requires c =
-    stands-words c.args.m.count c.args.slots.now c.active_at-a.result.coro c.in-At.i
-    (sym c.in-At.is ∙ c.coro_place.ensures) c.requires.ok.rep.slots.within
+    stands-words c.args.m.count c.args.slots.now c.active_at-a.result.coro c.in-Ok.i
+    (sym c.in-Ok.is ∙ c.coro_place.ensures) c.requires.ok.rep.slots.within
 
 pub suspend_found-requires : goal.suspend_found-requires
 suspend_found-requires c =
@@ -49,16 +49,16 @@ suspend_found-requires c =
       some = some c.before.before.before.before.before.before.before.before.before.before.before.before.before;
       top = c.active_at-a.ensures;
       floor = c.if-m-a.false;
-      coro = ap (RV.At c.in-At.i) c.coro_at-c.ensures ∙ (stands c.args.m.count c.args.slots.now
-          c.active_at-a.result.coro c.in-At.i (sym c.in-At.is ∙ c.coro_place.ensures)).coro;
+      coro = ap (λ c₂. Ok (c.in-Ok.i, c₂)) c.coro_at-c.ensures ∙ (stands c.args.m.count c.args.slots.now
+          c.active_at-a.result.coro c.in-Ok.i (sym c.in-Ok.is ∙ c.coro_place.ensures)).coro;
     }
 
-pub returns-in-Not : goal.returns-in-Not
-returns-in-Not c =
+pub returns-in-Err : goal.returns-in-Err
+returns-in-Err c =
     λ w b rep snd. not_found c.args.sizes (mem c.before.before.before.before.before.before.before.before.before.before.before.before.before.before.before b) c.args.m b.fuel c.args.state c.args.dst c.args.payload
     c.args.keys w rep c.active_at-a.result (some c.before.before.before.before.before.before.before) c.active_at-a.ensures c.if-m-a.false _
-    (none-there (coro_of (slots_of c.args.m.count c.args.slots.now) c.active_at-a.result.coro) c.in-Not.field-0
-    (sym c.in-Not.is ∙ c.coro_place.ensures))
+    (none-there (coro_of (slots_of c.args.m.count c.args.slots.now) c.active_at-a.result.coro) c.in-Err.field-0
+    (sym c.in-Err.is ∙ c.coro_place.ensures))
 
 pub shape_of-stack : goal.shape_of-stack
 shape_of-stack c = c.suspend_found.auto.stack
@@ -66,11 +66,11 @@ shape_of-stack c = c.suspend_found.auto.stack
 pub shape_of-frames : goal.shape_of-frames
 shape_of-frames c = c.suspend_found.auto.frames
 
-pub shape_of-chain-in-At : goal.shape_of-chain-in-At
-shape_of-chain-in-At c = c.suspend_found.auto.chain
+pub shape_of-chain-in-Ok : goal.shape_of-chain-in-Ok
+shape_of-chain-in-Ok c = c.suspend_found.auto.chain
 
-pub shape_of-slots-in-At : goal.shape_of-slots-in-At
-shape_of-slots-in-At c = c.suspend_found.auto.slots
+pub shape_of-slots-in-Ok : goal.shape_of-slots-in-Ok
+shape_of-slots-in-Ok c = c.suspend_found.auto.slots
 
 pub shape_of-saved_stack : goal.shape_of-saved_stack
 shape_of-saved_stack c = c.suspend_found.auto.saved_stack
@@ -78,5 +78,5 @@ shape_of-saved_stack c = c.suspend_found.auto.saved_stack
 pub shape_of-saved_frames : goal.shape_of-saved_frames
 shape_of-saved_frames c = c.suspend_found.auto.saved_frames
 
-pub returns-in-At : goal.returns-in-At
-returns-in-At c = c.suspend_found.ensures
+pub returns-in-Ok : goal.returns-in-Ok
+returns-in-Ok c = c.suspend_found.ensures

@@ -36,17 +36,17 @@ put_sleep-requires c = (found_before c.requires c.base_at-base.ensures).slot
 pub shrunk-requires : goal.shrunk-requires
 shrunk-requires c = c.requires.some
 
-pub returns-in-OutOfMemory : goal.returns-in-OutOfMemory
-returns-in-OutOfMemory c =
+pub returns-in-Err : goal.returns-in-Err
+returns-in-Err c =
     λ w b rep snd. spent c.args.sizes (mem c.before.before.before.before.before.before.before.before.before.before.before.before.before b) c.args.m b.fuel c.args.state c.args.dst c.args.payload
     c.args.keys w rep c.args.a c.requires.some c.requires.top c.requires.floor c.args.i c.args.c c.requires.coro
-    c.base_at-base.result c.base_at-base.ensures (sym c.in-OutOfMemory.is ∙ c.charge.ensures ∙ ap (charge_of (heap_of c.args.m c.args.sizes)) c.growth-grow.ensures)
+    c.base_at-base.result c.base_at-base.ensures c.in-Err.f (sym c.in-Err.is ∙ c.charge.ensures ∙ ap (charge_of (heap_of c.args.m c.args.sizes)) c.growth-grow.ensures)
 
 pub shape_of-stack : goal.shape_of-stack
 shape_of-stack c = c.move_out.auto.stack
 
-pub shape_of-frames-in-Done : goal.shape_of-frames-in-Done
-shape_of-frames-in-Done c = c.move_out.auto.frames
+pub shape_of-frames-in-Ok : goal.shape_of-frames-in-Ok
+shape_of-frames-in-Ok c = c.move_out.auto.frames
 
 pub shape_of-chain : goal.shape_of-chain
 shape_of-chain c = c.pop_active.auto.chain
@@ -60,11 +60,11 @@ shape_of-saved_stack c = c.move_out.auto.saved_stack
 pub shape_of-saved_frames : goal.shape_of-saved_frames
 shape_of-saved_frames c = c.move_out.auto.saved_frames
 
-pub returns-in-Done : goal.returns-in-Done
-returns-in-Done c =
+pub returns-in-Ok : goal.returns-in-Ok
+returns-in-Ok c =
     λ w b rep snd. accepted c.args.sizes (mem c.before.before.before.before.before.before.before.before.before.before.before.before.before.before.before.before.before.before.before.before.before.before.before.before.before.before.before.before.before.before.before.before.before.before.before.before.before b) c.args.m b.fuel c.args.state c.args.dst c.args.payload
     c.args.keys w rep c.args.a c.requires.some c.requires.top c.requires.floor c.args.i c.args.c c.requires.coro
-    c.base_at-base.result c.base_at-base.ensures snd _ _ _ _ _ _ c.in-Done.g c.suspended-d.result c.shrunk.result c.event_of-event.result c.requires.state
-    (sym c.in-Done.is ∙ c.charge.ensures ∙ ap (charge_of (heap_of c.args.m c.args.sizes)) c.growth-grow.ensures)
+    c.base_at-base.result c.base_at-base.ensures snd _ _ _ _ _ _ c.in-Ok.g c.suspended-d.result c.shrunk.result c.event_of-event.result c.requires.state
+    (sym c.in-Ok.is ∙ c.charge.ensures ∙ ap (charge_of (heap_of c.args.m c.args.sizes)) c.growth-grow.ensures)
     c.move_out.ensures c.pop_active.ensures c.suspended-d.ensures c.put_sleep.ensures
     c.event_of-event.ensures c.shrunk.ensures

@@ -13,13 +13,13 @@ use Rattle.exec_ask.proofs.ask.coro_result.Goals as goal
 
 pub state_at-state-requires : goal.state_at-state-requires
 state_at-state-requires c =
-    stands-words c.args.m.count c.args.slots.now c.reg-v.result c.in-At.i
-    (sym c.in-At.is ∙ c.coro_place.ensures) c.requires.table
+    stands-words c.args.m.count c.args.slots.now c.reg-v.result c.in-Ok.i
+    (sym c.in-Ok.is ∙ c.coro_place.ensures) c.requires.table
 
 pub returns-then-not-is_returned : goal.returns-then-not-is_returned
 returns-then-not-is_returned c =
     λ l w b rep. let M = top_table c.args.stack.now c.args.frames.now c.args.slots.now plain b in
-    let e = sym c.in-At.is ∙ c.coro_place.ensures in
+    let e = sym c.in-Ok.is ∙ c.coro_place.ensures in
     let t = placed l M c.args.m b.fuel c.reg-v.result w rep _ e in
     result-early l M c.args.m b.fuel w c.args.dst c.args.c c.reg-v.result
     (c.reg-v.ensures w.stack w.frames rep.stack rep.frames).is t.core t.rest t.coro
@@ -28,19 +28,19 @@ returns-then-not-is_returned c =
 
 pub result_at-result-requires : goal.result_at-result-requires
 result_at-result-requires c =
-    stands-words c.args.m.count c.args.slots.now c.reg-v.result c.in-At.i
-    (sym c.in-At.is ∙ c.coro_place.ensures) c.requires.table
+    stands-words c.args.m.count c.args.slots.now c.reg-v.result c.in-Ok.i
+    (sym c.in-Ok.is ∙ c.coro_place.ensures) c.requires.table
 
-pub returns-in-Not : goal.returns-in-Not
-returns-in-Not c =
+pub returns-in-Err : goal.returns-in-Err
+returns-in-Err c =
     λ l w b rep. let M = top_table c.args.stack.now c.args.frames.now c.args.slots.now plain b in
     result-refused l M c.args.m b.fuel w c.args.dst c.args.c c.reg-v.result (c.reg-v.ensures w.stack w.frames rep.stack rep.frames).is _
-    (named_none l M c.args.m b.fuel c.reg-v.result w rep _ (sym c.in-Not.is ∙ c.coro_place.ensures)) rep
+    (named_none l M c.args.m b.fuel c.reg-v.result w rep _ (sym c.in-Err.is ∙ c.coro_place.ensures)) rep
 
 pub returns-else-not-is_returned : goal.returns-else-not-is_returned
 returns-else-not-is_returned c =
     λ l w b rep. let M = top_table c.args.stack.now c.args.frames.now c.args.slots.now plain b in
-    let e = sym c.in-At.is ∙ c.coro_place.ensures in
+    let e = sym c.in-Ok.is ∙ c.coro_place.ensures in
     let t = placed l M c.args.m b.fuel c.reg-v.result w rep _ e in
     result-told l _ c.args.m b.fuel w c.args.dst c.args.c c.reg-v.result
     (c.reg-v.ensures w.stack w.frames rep.stack rep.frames).is t.core t.rest t.coro c.result_at-result.result

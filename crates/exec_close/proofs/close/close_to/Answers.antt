@@ -21,7 +21,7 @@ mem c b = lent c.args.stack.now c.args.frames.now c.args.chain.now c.args.slots.
 pub returns-then-is_suspended : goal.returns-then-is_suspended
 returns-then-is_suspended c =
     λ w b rep snd. close-suspended-one c.args.sizes _ c.close_in.result.machine b.fuel w c.args.pc c.args.dst c.args.v c.args.signal
-    c.args.s c.close_in.result.step (sym c.is_suspended.ensures ∙ c.if-is_suspended.true) (c.close_in.ensures w b rep snd)
+    c.args.s c.close_in.result.answer (sym c.is_suspended.ensures ∙ c.if-is_suspended.true) (c.close_in.ensures w b rep snd)
 
 pub returns-then-is_running : goal.returns-then-is_running
 returns-then-is_running c =

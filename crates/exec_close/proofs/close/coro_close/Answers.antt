@@ -19,15 +19,15 @@ close_to-requires c =
     let p = c.requires in
     record { entry = record { ok = p.ok; narrow = p.narrow; some = p.result.some }; result = p.result }
 
-pub returns-in-Refused : goal.returns-in-Refused
-returns-in-Refused c =
+pub returns-in-Err : goal.returns-in-Err
+returns-in-Err c =
     λ w b rep snd. close-refused c.args.sizes (mem c.before.before.before.before.before.before.before.before.before.before.before b) c.args.m b.fuel w c.args.pc c.args.dst c.reg-v.result
     c.reg-signal.result c.args.c c.args.src
     (c.reg-v.ensures w.stack w.frames rep.stack rep.frames).is (c.reg-signal.ensures w.stack w.frames rep.stack rep.frames).is _
-    (sym c.in-Refused.is ∙ c.coro_state.ensures c.args.sizes w (record { words = mem c.before.before.before.before.before.before.before.before.before.before.before b; fuel = b.fuel }) rep) rep
+    (sym c.in-Err.is ∙ c.coro_state.ensures c.args.sizes w (record { words = mem c.before.before.before.before.before.before.before.before.before.before.before b; fuel = b.fuel }) rep) rep
 
-pub returns-in-In : goal.returns-in-In
-returns-in-In c =
+pub returns-in-Ok : goal.returns-in-Ok
+returns-in-Ok c =
     λ w b rep snd. closes c.args.sizes _ _ b.fuel w c.args.pc c.args.dst c.reg-v.result c.reg-signal.result c.args.c c.args.src
-    (c.reg-v.ensures w.stack w.frames rep.stack rep.frames).is (c.reg-signal.ensures w.stack w.frames rep.stack rep.frames).is c.in-In.s _
-    (sym c.in-In.is ∙ c.coro_state.ensures c.args.sizes w (record { words = mem c.before.before.before.before.before.before.before.before.before.before.before.before.before.before.before.before.before.before.before.before.before.before.before.before.before.before.before.before.before.before b; fuel = b.fuel }) rep) (c.close_to.ensures w b rep snd)
+    (c.reg-v.ensures w.stack w.frames rep.stack rep.frames).is (c.reg-signal.ensures w.stack w.frames rep.stack rep.frames).is c.in-Ok.s _
+    (sym c.in-Ok.is ∙ c.coro_state.ensures c.args.sizes w (record { words = mem c.before.before.before.before.before.before.before.before.before.before.before.before.before.before.before.before.before.before.before.before.before.before.before.before.before.before.before.before.before.before b; fuel = b.fuel }) rep) (c.close_to.ensures w b rep snd)

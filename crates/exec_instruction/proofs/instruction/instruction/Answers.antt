@@ -5,7 +5,7 @@ use Prim.Native.Nat.{ℕ, ◌≤◌}
 use native.Mathlib.Omega.{arith}
 use Rattle.model.specs.World.{World, After}
 use Rattle.model.specs.Calls.{Instruction, table}
-use Rattle.model.specs.declared.call.OptPc.{OptPc}
+use Rattle.std.specs.Prelude.{Some}
 use Rattle.model.specs.declared.exec.Step.{Step}
 use Rattle.memory_world.specs.Memory.{Beside, Rep}
 use Rattle.memory_world.specs.Lendings.{plain}
@@ -161,5 +161,5 @@ returns-in-Done c =
     λ pc t arm q w b rep snd.
     let paid = c.charge-paid.ensures w (around rep) rep snd in
     done _ _ _ _ w pc (t w) arm (has-frame rep (some c.before.before.before.before.before.before.before.before.before.before.before.before.before.before.before.before.before.before.before.before.before.before.before.before.before.before.before.before.before.before.before.before.before.before.before.before.before.before.before.before.before.before.before.before.before.before.before.before.before.before.before.before.before.before)) (passed c.before.before.before.before.before.before.before.before.before.before.before.before.before.before.before.before.before.before.before.before.before.before.before.before.before.before.before.before.before.before.before.before.before.before.before.before.before.before.before.before.before.before.before.before.before.before.before.before.before w b q rep) _ (c.pc_of.ensures.is pc t arm q) _ _ _ (sym c.in-Done.is ∙ paid.answer)
-    (c.body-did.ensures pc t arm q _ (around paid.world) paid.world (charged-sound (OptPc.Some c.pc_of.result) w (narrow-pc _ c.pc_of.ensures.narrow) snd))
+    (c.body-did.ensures pc t arm q _ (around paid.world) paid.world (charged-sound (Some c.pc_of.result) w (narrow-pc _ c.pc_of.ensures.narrow) snd))
     c.answer_of-answer.ensures

@@ -19,16 +19,16 @@ iter_on-requires c =
     let p = c.requires in
     record { entry = record { ok = p.ok; narrow = p.narrow; some = p.flag.some }; result = p.flag }
 
-pub returns-in-Refused : goal.returns-in-Refused
-returns-in-Refused c =
+pub returns-in-Err : goal.returns-in-Err
+returns-in-Err c =
     λ w b rep snd. next-refused c.args.sizes (mem c.before.before.before.before.before.before.before.before.before.before.before b) c.args.m b.fuel w c.args.pc c.args.has c.reg-it.result c.args.val
     c.reg-v.result c.args.iter c.args.src
     (c.reg-it.ensures w.stack w.frames rep.stack rep.frames).is (c.reg-v.ensures w.stack w.frames rep.stack rep.frames).is _
-    (sym c.in-Refused.is ∙ c.coro_state.ensures c.args.sizes w (record { words = mem c.before.before.before.before.before.before.before.before.before.before.before b; fuel = b.fuel }) rep) rep
+    (sym c.in-Err.is ∙ c.coro_state.ensures c.args.sizes w (record { words = mem c.before.before.before.before.before.before.before.before.before.before.before b; fuel = b.fuel }) rep) rep
 
-pub returns-in-In : goal.returns-in-In
-returns-in-In c =
+pub returns-in-Ok : goal.returns-in-Ok
+returns-in-Ok c =
     λ w b rep snd. iterates c.args.sizes _ _ b.fuel w c.args.pc c.args.has c.reg-it.result c.args.val c.reg-v.result
     c.args.iter c.args.src
-    (c.reg-it.ensures w.stack w.frames rep.stack rep.frames).is (c.reg-v.ensures w.stack w.frames rep.stack rep.frames).is c.in-In.s _
-    (sym c.in-In.is ∙ c.coro_state.ensures c.args.sizes w (record { words = mem c.before.before.before.before.before.before.before.before.before.before.before.before.before.before.before.before.before.before.before.before.before.before.before.before.before.before.before.before.before.before b; fuel = b.fuel }) rep) (c.iter_on.ensures w b rep snd)
+    (c.reg-it.ensures w.stack w.frames rep.stack rep.frames).is (c.reg-v.ensures w.stack w.frames rep.stack rep.frames).is c.in-Ok.s _
+    (sym c.in-Ok.is ∙ c.coro_state.ensures c.args.sizes w (record { words = mem c.before.before.before.before.before.before.before.before.before.before.before.before.before.before.before.before.before.before.before.before.before.before.before.before.before.before.before.before.before.before b; fuel = b.fuel }) rep) (c.iter_on.ensures w b rep snd)

@@ -29,5 +29,5 @@ pub returns : goal.returns
 returns c =
     λ w b rep snd. next-entered c.args.sizes _ c.enter_send.result.machine b.fuel w
     c.args.pc c.args.has c.args.iter c.args.val c.args.src c.args.s
-    (sym (c.exhausted.ensures c.args.sizes w (around c.before.before.before.before.before.before.before.before.before.before.before.before.before.before.before.before.before.before.before.before.before.before.before.before.before.before.before.before.before.before b) rep) ∙ c.if-exhausted.false) c.enter_send.result.step
+    (sym (c.exhausted.ensures c.args.sizes w (around c.before.before.before.before.before.before.before.before.before.before.before.before.before.before.before.before.before.before.before.before.before.before.before.before.before.before.before.before.before.before b) rep) ∙ c.if-exhausted.false) c.enter_send.result.answer
     (sym c.is_awaiting.ensures ∙ c.if-is_awaiting.false) (c.enter_send.ensures w b rep snd)

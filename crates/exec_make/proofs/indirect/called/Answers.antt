@@ -23,27 +23,27 @@ mem s b = table_setup s.args.slots.now s.args.setup.now plain b
 pub returns-then-not-is_function : goal.returns-then-not-is_function
 returns-then-not-is_function c =
     λ l w b rep.
-    no-function l w (mem c.before.before.before.before.before.before.before b) c.args.m b.fuel rep c.args.v.0 c.args.argc c.in-Func.f (sym c.in-Func.is ∙ c.callee.ensures)
+    no-function l w (mem c.before.before.before.before.before.before.before b) c.args.m b.fuel rep c.args.v.0 c.args.argc c.in-Ok.f (sym c.in-Ok.is ∙ c.callee.ensures)
     (sym c.is_function.ensures ∙ c.if-not-is_function.true)
 
 pub params_at-requires : goal.params_at-requires
 params_at-requires c =
-    let h : c.in-Func.f < get_or c.args.setup.now 13 0 = ltb-true _ _ (sym c.is_function.ensures ∙ c.if-not-is_function.false) in
+    let h : c.in-Ok.f < get_or c.args.setup.now 13 0 = ltb-true _ _ (sym c.is_function.ensures ∙ c.if-not-is_function.false) in
     omega (arith, c.requires.functions)
 
 pub returns-then-params_at-argc : goal.returns-then-params_at-argc
 returns-then-params_at-argc c =
     λ l w b rep.
-    other-count l w (mem c.before.before.before.before.before.before.before.before.before b) c.args.m b.fuel rep c.args.v.0 c.args.argc c.in-Func.f (sym c.in-Func.is ∙ c.callee.ensures)
+    other-count l w (mem c.before.before.before.before.before.before.before.before.before b) c.args.m b.fuel rep c.args.v.0 c.args.argc c.in-Ok.f (sym c.in-Ok.is ∙ c.callee.ensures)
     (sym c.is_function.ensures ∙ c.if-not-is_function.false) (λ z. c.if-params_at-argc.true (c.params_at.ensures ∙ z))
 
-pub returns-in-Not : goal.returns-in-Not
-returns-in-Not c =
+pub returns-in-Err : goal.returns-in-Err
+returns-in-Err c =
     λ l w b rep.
-    no-callee l w (mem c.before.before.before.before.before b) c.args.m b.fuel rep c.args.v.0 c.args.argc c.in-Not.g (sym c.in-Not.is ∙ c.callee.ensures)
+    no-callee l w (mem c.before.before.before.before.before b) c.args.m b.fuel rep c.args.v.0 c.args.argc c.in-Err.g (sym c.in-Err.is ∙ c.callee.ensures)
 
 pub returns-else-params_at-argc : goal.returns-else-params_at-argc
 returns-else-params_at-argc c =
     λ l w b rep.
-    is-callee l w (mem c.before.before.before.before.before.before.before.before.before b) c.args.m b.fuel rep c.args.v.0 c.args.argc c.in-Func.f (sym c.in-Func.is ∙ c.callee.ensures)
+    is-callee l w (mem c.before.before.before.before.before.before.before.before.before b) c.args.m b.fuel rep c.args.v.0 c.args.argc c.in-Ok.f (sym c.in-Ok.is ∙ c.callee.ensures)
     (sym c.is_function.ensures ∙ c.if-not-is_function.false) (sym c.params_at.ensures ∙ c.if-params_at-argc.false)

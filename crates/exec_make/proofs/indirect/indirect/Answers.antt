@@ -30,24 +30,24 @@ create-requires c =
     record {
       ok = o;
       function =
-          called-function c.args.sizes o.world (mem c.before.before.before.before.before.before.before.before.before.before.before.before.before o.beside) c.args.m o.beside.fuel o.rep c.reg-v.result c.args.argc c.in-Func.f
-          (sym c.in-Func.is ∙ c.called.ensures c.args.sizes o.world (around c.before.before.before.before.before.before.before.before.before.before.before.before.before o.beside) o.rep);
+          called-function c.args.sizes o.world (mem c.before.before.before.before.before.before.before.before.before.before.before.before.before o.beside) c.args.m o.beside.fuel o.rep c.reg-v.result c.args.argc c.in-Ok.f
+          (sym c.in-Ok.is ∙ c.called.ensures c.args.sizes o.world (around c.before.before.before.before.before.before.before.before.before.before.before.before.before o.beside) o.rep);
       few = c.requires.few;
       reg = c.requires.reg;
       window = c.requires.window;
     }
 
-pub returns-in-Not : goal.returns-in-Not
-returns-in-Not c =
+pub returns-in-Err : goal.returns-in-Err
+returns-in-Err c =
     λ w b rep snd.
     indirect-refused w c.args.dst c.args.callee c.args.argc c.args.sizes (mem c.before.before.before.before.before.before.before.before.before.before b) c.args.m b.fuel c.reg-v.result
-    (c.reg-v.ensures w.stack w.frames rep.stack rep.frames).is c.in-Not.g
-    (sym c.in-Not.is ∙ c.called.ensures c.args.sizes w (around c.before.before.before.before.before.before.before.before.before.before b) rep) rep
+    (c.reg-v.ensures w.stack w.frames rep.stack rep.frames).is c.in-Err.g
+    (sym c.in-Err.is ∙ c.called.ensures c.args.sizes w (around c.before.before.before.before.before.before.before.before.before.before b) rep) rep
 
-pub returns-in-Func : goal.returns-in-Func
-returns-in-Func c =
+pub returns-in-Ok : goal.returns-in-Ok
+returns-in-Ok c =
     λ w b rep snd.
     indirect-made w c.args.dst c.args.callee c.args.argc c.args.sizes _ _ b.fuel c.reg-v.result
-    (c.reg-v.ensures w.stack w.frames rep.stack rep.frames).is c.in-Func.f _
-    (sym c.in-Func.is ∙ c.called.ensures c.args.sizes w (around c.before.before.before.before.before.before.before.before.before.before.before.before.before.before.before.before.before.before.before.before b) rep)
+    (c.reg-v.ensures w.stack w.frames rep.stack rep.frames).is c.in-Ok.f _
+    (sym c.in-Ok.is ∙ c.called.ensures c.args.sizes w (around c.before.before.before.before.before.before.before.before.before.before.before.before.before.before.before.before.before.before.before.before b) rep)
     (c.create.ensures w b rep snd)

@@ -2,7 +2,7 @@
 use borrow.Enum.Refused.{opened}
 use mathlib.Core.Path.{subst}
 use Rattle.model.specs.Cleanup.{charge}
-use Rattle.model.specs.declared.call.OptPc.{OptPc}
+use Rattle.std.specs.Prelude.{None}
 use Rattle.memory_world.specs.Memory.{Lent, Beside}
 use Rattle.memory_world.specs.Lendings.{top_setup, plain}
 use Rattle.memory_world.specs.Contract.{Does}
@@ -28,7 +28,7 @@ returns-in-Spent c =
     λ w b rep snd.
     let did = c.charge_plain-paid.ensures c.args.m c.args.sizes w (around c.before.before.before.before.before.before.before b) rep in
     not-paid c.args.hook c.args.pc c.args.dst c.args.c w c.args.sizes (mem c.before.before.before.before.before.before.before b) c.args.m c.charge_plain-paid.result.fuel
-    (subst (λ a. Does c.args.sizes (charge OptPc.None w) (mem c.before.before.before.before.before.before.before b) c.args.m c.charge_plain-paid.result.fuel a) c.in-Spent.is did)
+    (subst (λ a. Does c.args.sizes (charge None w) (mem c.before.before.before.before.before.before.before b) c.args.m c.charge_plain-paid.result.fuel a) c.in-Spent.is did)
 
 pub push_hook-did-requires : goal.push_hook-did-requires
 push_hook-did-requires c = c.requires
@@ -38,4 +38,4 @@ returns c =
     λ w b rep snd.
     let did = c.charge_plain-paid.ensures c.args.m c.args.sizes w (around c.before.before.before.before.before.before.before.before.before.before.before.before.before.before.before b) rep in
     was-paid c.args.hook c.args.pc c.args.dst c.args.c w c.args.sizes _ _ _ c.charge_plain-paid.result.answer _ (opened c.in_default.in_default-own.keys2) did.answer
-    (c.push_hook-did.ensures (charge OptPc.None w).world (record { words = b.words; fuel = c.charge_plain-paid.result.fuel }) did.world (paid-sound w snd))
+    (c.push_hook-did.ensures (charge None w).world (record { words = b.words; fuel = c.charge_plain-paid.result.fuel }) did.world (paid-sound w snd))

@@ -31,22 +31,22 @@ pub put-requires : goal.put-requires
 put-requires c =
     let o = c.requires.call.push.ok in
     let did = c.push_at-did.ensures o.world o.beside o.rep o.sound in
-    hook-fits c.args.hook c.args.pc c.args.dst c.args.c o.world c.args.sizes _ _ o.beside.fuel c.in-Word._base
-    (sym c.in-Word.is ∙ did.answer) did.world
+    hook-fits c.args.hook c.args.pc c.args.dst c.args.c o.world c.args.sizes _ _ o.beside.fuel c.in-Ok._base
+    (sym c.in-Ok.is ∙ did.answer) did.world
     (subst (λ k. 1 ≤ k) (regs-in o.world.setup c.args.setup.now o.rep.setup c.args.hook c.requires.call.push.function) c.requires.register)
 
-pub returns-in-Refused : goal.returns-in-Refused
-returns-in-Refused c =
+pub returns-in-Err : goal.returns-in-Err
+returns-in-Err c =
     λ w b rep snd.
     let did = c.push_at-did.ensures w b rep snd in
-    hook-refused c.args.hook c.args.pc c.args.dst c.args.c w c.args.sizes _ _ b.fuel c.in-Refused.g
-    (sym c.in-Refused.is ∙ did.answer) did.world
+    hook-refused c.args.hook c.args.pc c.args.dst c.args.c w c.args.sizes _ _ b.fuel c.in-Err.g
+    (sym c.in-Err.is ∙ did.answer) did.world
 
-pub returns-in-Word : goal.returns-in-Word
-returns-in-Word c =
+pub returns-in-Ok : goal.returns-in-Ok
+returns-in-Ok c =
     λ w b rep snd.
     let did = c.push_at-did.ensures w b rep snd in
-    hook-done c.args.hook c.args.pc c.args.dst c.args.c w c.args.sizes _ _ b.fuel c.in-Word._base
-    (sym c.in-Word.is ∙ did.answer)
+    hook-done c.args.hook c.args.pc c.args.dst c.args.c w c.args.sizes _ _ b.fuel c.in-Ok._base
+    (sym c.in-Ok.is ∙ did.answer)
     (c.put.ensures c.args.sizes (push_at c.args.pc c.args.hook nil (Cont.Value c.args.dst) w).world
     (record { words = top_setup c.args.stack.now c.push_at-did.new.frames c.args.setup.now plain b; fuel = b.fuel }) did.world)

@@ -41,20 +41,20 @@ call_hook-requires c =
     hook-asks p c.in-Some.hook (sym c.in-Some.is ∙ c.hook.ensures)
     (c.indirect-did.ensures o.world o.beside o.rep o.sound).world k.slots k.saved_stack k.saved_frames
 
-pub returns-in-Refused : goal.returns-in-Refused
-returns-in-Refused c =
+pub returns-in-Err : goal.returns-in-Err
+returns-in-Err c =
     let a = c.args in
     λ w b rep snd.
     spawn-refused a.sizes w (mem c.before.before.before.before.before.before.before.before.before.before.before.before.before.before.before.before.before.before.before.before.before b) a.m a.fuel rep a.pc a.dst a.callee a.argc
-    c.in-Some.hook (sym c.in-Some.is ∙ c.hook.ensures) _ _ a.fuel _ c.in-Refused.g c.in-Refused.is
+    c.in-Some.hook (sym c.in-Some.is ∙ c.hook.ensures) _ _ a.fuel _ c.in-Err.g c.in-Err.is
     (c.indirect-did.ensures w (record { words = b.words; fuel = a.fuel }) rep snd)
 
-pub returns-in-Word : goal.returns-in-Word
-returns-in-Word c =
+pub returns-in-Ok : goal.returns-in-Ok
+returns-in-Ok c =
     let a = c.args in
     λ w b rep snd.
     let did = c.indirect-did.ensures w (record { words = b.words; fuel = a.fuel }) rep snd in
     let u = (indirect a.dst a.callee a.argc w).world in
     spawn-called a.sizes w (mem c.before.before.before.before.before.before.before.before.before.before.before.before.before.before.before.before.before.before.before.before.before.before.before.before.before.before.before.before b) a.m a.fuel rep a.pc a.dst a.callee a.argc
-    c.in-Some.hook (sym c.in-Some.is ∙ c.hook.ensures) _ _ _ c.in-Word.c _ (sym c.in-Word.is ∙ did.answer)
+    c.in-Some.hook (sym c.in-Some.is ∙ c.hook.ensures) _ _ _ c.in-Ok.c _ (sym c.in-Ok.is ∙ did.answer)
     (c.call_hook.ensures u (record { words = left c.before.before.before.before.before.before.before.before.before.before.before.before.before.before.before.before b; fuel = b.fuel }) did.world (→sound u (indirect-good a.dst a.callee a.argc w (known w snd)).sound))

@@ -3,12 +3,12 @@ use Rattle.exec_yield.proofs.Settled.{deliver-done, deliver-refused}
 use Rattle.exec_yield.proofs.suspending.deliver_all.Goals as goal
 
 pub deliver-did-requires : goal.deliver-did-requires
-deliver-did-requires c = c.requires.drives c.in-Done.driver c.in-Done.event c.in-Done.is
+deliver-did-requires c = c.requires.drives c.in-Ok.driver c.in-Ok.event c.in-Ok.is
 
-pub returns-in-Done : goal.returns-in-Done
-returns-in-Done c =
-    λ l w b rep. deliver-done l _ _ _ w c.args.a c.in-Done.driver c.in-Done.event _ _ c.in-Done.is
+pub returns-in-Ok : goal.returns-in-Ok
+returns-in-Ok c =
+    λ l w b rep. deliver-done l _ _ _ w c.args.a c.in-Ok.driver c.in-Ok.event _ _ c.in-Ok.is
     (c.deliver-did.ensures l w b rep) c.stepped_by-step.ensures
 
-pub returns-in-Refused : goal.returns-in-Refused
-returns-in-Refused c = λ l w b rep. deliver-refused l _ _ _ w c.args.a c.in-Refused.f c.in-Refused.is rep
+pub returns-in-Err : goal.returns-in-Err
+returns-in-Err c = λ l w b rep. deliver-refused l _ _ _ w c.args.a c.in-Err.f c.in-Err.is rep

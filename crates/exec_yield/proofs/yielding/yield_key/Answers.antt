@@ -18,12 +18,12 @@ mem c b = lent c.args.stack.now c.args.frames.now c.args.chain.now c.args.slots.
 pub suspend-requires : goal.suspend-requires
 suspend-requires c = record { run = c.requires; state = refl }
 
-pub returns-in-Key : goal.returns-in-Key
-returns-in-Key c =
-    λ w b rep snd. keyed-yield c.args.sizes _ _ _ w c.args.pc c.args.dst c.args.payload c.args.a _ c.in-Key.key
-    c.in-Key.largest c.in-Key.is (c.suspend.ensures w b rep snd)
+pub returns-in-Ok : goal.returns-in-Ok
+returns-in-Ok c =
+    λ w b rep snd. keyed-yield c.args.sizes _ _ _ w c.args.pc c.args.dst c.args.payload c.args.a _ c.in-Ok.key
+    c.in-Ok.largest c.in-Ok.is (c.suspend.ensures w b rep snd)
 
-pub returns-in-Refused : goal.returns-in-Refused
-returns-in-Refused c =
+pub returns-in-Err : goal.returns-in-Err
+returns-in-Err c =
     λ w b rep snd. unkeyed-yield c.args.sizes (mem c.before.before.before.before.before.before.before.before b) c.args.m c.args.fuel w c.args.pc c.args.dst
-    c.args.payload c.args.a c.in-Refused.f c.in-Refused.is rep
+    c.args.payload c.args.a c.in-Err.f c.in-Err.is rep

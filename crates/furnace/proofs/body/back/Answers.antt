@@ -1,28 +1,21 @@
 -- `back` meets its contract: the words compared so far are as they should be. Assumes nothing.
-use Rattle.std.proofs.Common.{◌≡◌, ℕ, ◌+◌, ◌≤◌, get_or, sym, refl, ap, ◌∙◌, subst, arith}
-use Rattle.lists.proofs.Tests.{holds-next}
+use Rattle.std.proofs.Common.{◌≡◌, ℕ, ◌+◌, ◌≤◌, get_or, sym, ap, ◌∙◌, subst, arith}
 use Rattle.furnace.specs.Watch.{at_most, word_back}
 use Rattle.furnace.proofs.Words.{at-most}
-use Rattle.furnace.proofs.Bodies.{other-many, one-differs, each_back}
+use Rattle.furnace.proofs.Bodies.{other-many, one-differs}
 use Rattle.furnace.proofs.body.back.Goals as goal
 
 few : (n m : ℕ) → n ≡ at_most 2 m → n ≤ 2
 few n m e = subst (λ k. k ≤ 2) (sym e) (at-most 2 m)
 
-pub returns-then-above-n : goal.returns-then-above-n
-returns-then-above-n c =
+pub returns-then-saturating_sub-n : goal.returns-then-saturating_sub-n
+returns-then-saturating_sub-n c =
     let a = c.args in
     other-many a.frames.now a.floor a.depth a.notes.now a.at a.sent a.from a.to c.at_most-n.result c.at_most-n.ensures _
-    c.above.ensures c.if-above-n.true
+    c.saturating_sub.ensures c.if-saturating_sub-n.true
 
-pub loop-p-init : goal.loop-p-init
-loop-p-init c = (omega arith, refl)
-
-pub overflow_mul-n : goal.overflow_mul-n
-overflow_mul-n c = omega (arith, few c.at_most-n.result _ c.at_most-n.ensures)
-
-pub overflow_add-was : goal.overflow_add-was
-overflow_add-was c = omega (arith, c.requires, c.well_formed)
+pub overflow_mul-p-end : goal.overflow_mul-p-end
+overflow_mul-p-end c = omega (arith, few c.at_most-n.result _ c.at_most-n.ensures)
 
 pub overflow_add-was-in-loop-p : goal.overflow_add-was-in-loop-p
 overflow_add-was-in-loop-p c = omega (arith, few c.at_most-n.result _ c.at_most-n.ensures, c.requires, c.well_formed, c.loop-p-test.true)
@@ -41,23 +34,4 @@ returns-then-not-word_back c =
     let a = c.args in
     one-differs a.frames.now a.floor a.depth a.notes.now a.at a.sent a.from a.to c.at_most-n.result c.at_most-n.ensures
     c.loop-p.p c.loop-p-test.true
-    (let a = c.args in sym (c.word_back.ensures ∙ ap (word_back a.sent c.at_most-n.result a.from a.to c.loop-p.p (get_or a.notes.now (a.at + 17 + c.loop-p.p) 0)) c.field-is.ensures) ∙ c.if-not-word_back.true)
-
-pub overflow_add-p : goal.overflow_add-p
-overflow_add-p c = omega (arith, few c.at_most-n.result _ c.at_most-n.ensures, c.loop-p-test.true)
-
-pub loop-p-smaller : goal.loop-p-smaller
-loop-p-smaller c = omega (arith, c.loop-p-test.true)
-
-pub loop-p-preserved : goal.loop-p-preserved
-loop-p-preserved c = (
-  omega (arith, c.loop-p-test.true),
-  holds-next c.loop-p.p _ c.loop-p.invariant.1
-      (let a = c.args in sym (c.word_back.ensures ∙ ap (word_back a.sent c.at_most-n.result a.from a.to c.loop-p.p (get_or a.notes.now (a.at + 17 + c.loop-p.p) 0)) c.field-is.ensures) ∙ c.if-not-word_back.false),
-)
-
-pub returns : goal.returns
-returns c =
-    let a = c.args in
-    each_back a.frames.now a.floor a.depth a.notes.now a.at a.sent a.from a.to c.at_most-n.result c.at_most-n.ensures _
-    c.loop-p.p c.above.ensures c.if-above-n.false (omega (arith, c.loop-p.invariant.0, c.loop-p-test.false)) c.loop-p.invariant.1
+    (sym (c.word_back.ensures ∙ ap (word_back a.sent c.at_most-n.result a.from a.to c.loop-p.p (get_or a.notes.now (a.at + 17 + c.loop-p.p) 0)) c.field-is.ensures) ∙ c.if-not-word_back.true)

@@ -1,5 +1,5 @@
 -- `fits` meets its contract: each test fails the whole, and the last decides it. Assumes nothing.
-use Rattle.std.proofs.Common.{◌∙◌, arith}
+use Rattle.std.proofs.Common.{◌-◌, ◌∙◌, le-ltb, arith}
 use Rattle.furnace.proofs.Words.{below-own, beyond-stack, too_many, not-among, is_among, among-last}
 use Rattle.furnace.proofs.note.fits.Goals as goal
 
@@ -18,14 +18,14 @@ returns-then-n-gt-MOST_WORDS c =
     let a = c.args in
     too_many a.stack.now a.own a.top a.height a.r c.if-height-own.false c.if-stack-height.false c.if-n-gt-MOST_WORDS.true
 
-pub returns-then-n-place : goal.returns-then-n-place
-returns-then-n-place c =
+pub returns-else-place-n : goal.returns-else-place-n
+returns-else-place-n c =
     let a = c.args in
-    let e = c.above-place.ensures in
-    let t = c.if-n-place.true in
-    not-among a.stack.now a.own a.top a.height a.r c.if-height-own.false c.if-stack-height.false c.if-n-gt-MOST_WORDS.false (omega (arith, e, t))
+    let e = c.saturating_sub-place.ensures in
+    let t = c.if-place-n.false in
+    le-ltb c.saturating_sub-place.result (a.height - a.own) t ∙ not-among a.stack.now a.own a.top a.height a.r c.if-height-own.false c.if-stack-height.false c.if-n-gt-MOST_WORDS.false (omega (arith, e, t))
 
-pub returns : goal.returns
-returns c =
+pub returns-then-place-n : goal.returns-then-place-n
+returns-then-place-n c =
     let a = c.args in
-    among-last a.height a.own _ _ a.r c.if-n-place.false c.above-place.ensures ∙ is_among a.stack.now a.own a.top a.height a.r c.if-height-own.false c.if-stack-height.false c.if-n-gt-MOST_WORDS.false
+    among-last a.height a.own _ _ a.r c.if-place-n.true c.saturating_sub-place.ensures ∙ is_among a.stack.now a.own a.top a.height a.r c.if-height-own.false c.if-stack-height.false c.if-n-gt-MOST_WORDS.false

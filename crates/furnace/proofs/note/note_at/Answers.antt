@@ -26,7 +26,7 @@ pub overflow_sub-n : goal.overflow_sub-n
 overflow_sub-n c = (words-fit c.args.stack.now c.own_base-own.result c.top_base-top.result c.args.m.height c.args.r _ _ c.all_fit.ensures c.if-not-all_fit.false).above
 
 pub overflow_add-place : goal.overflow_add-place
-overflow_add-place c = let f = words-fit c.args.stack.now c.own_base-own.result c.top_base-top.result c.args.m.height c.args.r _ _ c.all_fit.ensures c.if-not-all_fit.false in omega (arith, f.among, c.above.ensures, c.well_formed)
+overflow_add-place c = let f = words-fit c.args.stack.now c.own_base-own.result c.top_base-top.result c.args.m.height c.args.r _ _ c.all_fit.ensures c.if-not-all_fit.false in omega (arith, f.among, c.saturating_sub.ensures, c.well_formed)
 
 pub keep-requires : goal.keep-requires
 keep-requires c =
@@ -49,5 +49,5 @@ returns c =
     one-noted a.stack.now a.frames.now a.chain.now a.m a.r a.pc a.notes.now c.own_base-own.result c.top_base-top.result
     c.floor-low.result _ c.own_base-own.ensures c.top_base-top.ensures c.floor-low.ensures c.all_fit.ensures (ap not c.if-not-all_fit.false)
     c.if-m-eq0.false
-    c.note_of-at.result c.above.result (c.note_of-at.ensures ∙ ap note_of c.coroutine.ensures) c.above.ensures _ _
+    c.note_of-at.result c.saturating_sub.result (c.note_of-at.ensures ∙ ap note_of c.coroutine.ensures) c.saturating_sub.ensures _ _
     c.keep.ensures c.keep-2.ensures

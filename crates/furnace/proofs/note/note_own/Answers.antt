@@ -13,7 +13,7 @@ returns-in_default c =
     let a = c.args in
     no-waits a.stack.now a.frames.now a.chain.now a.m a.notes.now a.p (opened c.in_default.in_default-own.keys2)
 
-pub returns : goal.returns
-returns c =
+pub returns-in-Waits : goal.returns-in-Waits
+returns-in-Waits c =
     let a = c.args in
     c.note_at.ensures ∙ ap (λ x. noted a.stack.now a.frames.now a.chain.now a.m x a.notes.now) (sym c.in-Waits.is)

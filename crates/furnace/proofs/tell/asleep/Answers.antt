@@ -11,8 +11,8 @@ below at w e = subst (λ k. k ≤ 96) (sym e) (note-below w)
 few : (n m : ℕ) → n ≡ at_most 13 m → n ≤ 13
 few n m e = subst (λ k. k ≤ 13) (sym e) (at-most 13 m)
 
-pub overflow_add-end : goal.overflow_add-end
-overflow_add-end c = omega (arith, below c.note_of-at.result _ c.note_of-at.ensures, few c.at_most-n.result _ c.at_most-n.ensures)
+pub overflow_add-held : goal.overflow_add-held
+overflow_add-held c = omega (arith, below c.note_of-at.result _ c.note_of-at.ensures, few c.at_most-n.result _ c.at_most-n.ensures)
 
-pub slice_bounds-words-end : goal.slice_bounds-words-end
-slice_bounds-words-end c = omega (arith, below c.note_of-at.result _ c.note_of-at.ensures, few c.at_most-n.result _ c.at_most-n.ensures, c.requires)
+pub slice_bounds-held-end : goal.slice_bounds-held-end
+slice_bounds-held-end c = omega (arith, below c.note_of-at.result _ c.note_of-at.ensures, few c.at_most-n.result _ c.at_most-n.ensures, c.requires)

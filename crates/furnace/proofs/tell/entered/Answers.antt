@@ -9,10 +9,10 @@ pub returns-then-n-eq0 : goal.returns-then-n-eq0
 returns-then-n-eq0 c =
     let a = c.args in
     starts a.stack.now a.frames.now a.chain.now a.m a.sent a.notes.now a.count _ _
-    (c.note_of-at.ensures ∙ ap note_of (c.coroutine-c.ensures ∙ ap (coro_in a.chain.now) c.last.ensures)) c.at_most-n.ensures c.if-n-eq0.true
+    (c.note_of-at.ensures ∙ ap note_of (c.coroutine-c.ensures ∙ ap (coro_in a.chain.now) c.saturating_sub.ensures)) c.at_most-n.ensures c.if-n-eq0.true
 
 pub returns : goal.returns
 returns c =
     let a = c.args in
     wakes a.stack.now a.frames.now a.chain.now a.m a.sent a.notes.now a.count _ _
-    (c.note_of-at.ensures ∙ ap note_of (c.coroutine-c.ensures ∙ ap (coro_in a.chain.now) c.last.ensures)) c.at_most-n.ensures c.if-n-eq0.false _ c.woken.ensures
+    (c.note_of-at.ensures ∙ ap note_of (c.coroutine-c.ensures ∙ ap (coro_in a.chain.now) c.saturating_sub.ensures)) c.at_most-n.ensures c.if-n-eq0.false _ c.woken.ensures

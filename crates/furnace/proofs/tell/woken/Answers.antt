@@ -1,6 +1,6 @@
 -- `woken` meets its contract: the part of the stack that came back, the part of the note, the frames. Assumes nothing.
-use Rattle.std.proofs.Common.{◌≡◌, ℕ, ◌≤◌, List, length, get_or, sym, ap, ◌∙◌, subst, arith}
-use Rattle.furnace.specs.Watch.{at_most, noted_words, floor_in}
+use Rattle.std.proofs.Common.{◌≡◌, ℕ, ◌+◌, ◌≤◌, List, length, get_or, sym, ap, ◌∙◌, subst, arith}
+use Rattle.furnace.specs.Watch.{at_most, noted_words, floor_in, frames_back}
 use Rattle.furnace.proofs.Words.{at-most}
 use Rattle.furnace.proofs.Watching.{woken-is}
 use Rattle.furnace.proofs.tell.woken.Goals as goal
@@ -38,4 +38,6 @@ returns c =
     woken-is a.stack.now a.frames.now a.chain.now a.m a.sent a.notes.now a.at a.n a.count
     c.own_base-own.result c.at_most-height.result c.at_most-start.result c.floor-low.result _ _ _ c.requires.1 c.own_base-own.ensures
     c.at_most-height.ensures c.at_most-start.ensures
-    (c.floor-low.ensures ∙ ap (floor_in a.chain.now) c.last.ensures) c.woke-words.ensures c.back-bodies.ensures c.both-equal.ensures _ c.one_more.ensures
+    (c.floor-low.ensures ∙ ap (floor_in a.chain.now) c.saturating_sub.ensures) c.woke-words.ensures
+    (c.back-bodies.ensures ∙ ap (λ b. frames_back a.frames.now c.floor-low.result a.m.depth a.notes.now a.at b (get_or a.notes.now (a.at + 2) 0) c.own_base-own.result) c.is_some.ensures)
+    c.both-equal.ensures _ c.one_more.ensures

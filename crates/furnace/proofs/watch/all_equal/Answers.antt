@@ -1,18 +1,9 @@
 -- `all_equal` meets its contract. Assumes nothing.
-use Rattle.furnace.proofs.Words.{none-woken, some-differ, each-equal}
+use Rattle.furnace.proofs.Words.{none-woken, some-woken}
 use Rattle.furnace.proofs.watch.all_equal.Goals as goal
 
-pub returns-then-wakes-eq0 : goal.returns-then-wakes-eq0
-returns-then-wakes-eq0 c =
-    let a = c.args in
-    none-woken a.wakes a.equal c.if-wakes-eq0.true
+pub returns-else-wakes-ne0 : goal.returns-else-wakes-ne0
+returns-else-wakes-ne0 c = none-woken c.args.wakes c.args.equal c.if-wakes-ne0.false
 
-pub returns-then-equal-wakes : goal.returns-then-equal-wakes
-returns-then-equal-wakes c =
-    let a = c.args in
-    some-differ a.wakes a.equal c.if-wakes-eq0.false c.if-equal-wakes.true
-
-pub returns : goal.returns
-returns c =
-    let a = c.args in
-    each-equal a.wakes a.equal c.if-wakes-eq0.false c.if-equal-wakes.false
+pub returns-then-wakes-ne0 : goal.returns-then-wakes-ne0
+returns-then-wakes-ne0 c = some-woken c.args.wakes c.args.equal c.if-wakes-ne0.true

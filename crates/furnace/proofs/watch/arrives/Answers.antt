@@ -7,7 +7,7 @@ returns-then-n-eq0 c =
     let a = c.args in
     arrives-whole a.n a.sent c.if-n-eq0.true
 
-pub returns : goal.returns
-returns c =
+pub returns-else-n-eq0 : goal.returns-else-n-eq0
+returns-else-n-eq0 c =
     let a = c.args in
     arrives-none a.n a.sent c.if-n-eq0.false

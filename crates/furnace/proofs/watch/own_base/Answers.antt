@@ -5,4 +5,4 @@ use Rattle.furnace.specs.Watch.{floor_in}
 use Rattle.furnace.proofs.watch.own_base.Goals as goal
 
 pub returns : goal.returns
-returns c = c.base.ensures ∙ ap (base_in c.args.frames.now) (c.floor.ensures ∙ ap (floor_in c.args.chain.now) c.last.ensures)
+returns c = c.base.ensures ∙ ap (base_in c.args.frames.now) (c.floor.ensures ∙ ap (floor_in c.args.chain.now) c.saturating_sub.ensures)

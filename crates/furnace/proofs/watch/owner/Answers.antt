@@ -1,6 +1,6 @@
 -- `owner` meets its contract: those above do not own the frame. Assumes nothing.
 use Rattle.std.proofs.Common.{◌-◌, ◌∙◌, arith}
-use Rattle.furnace.proofs.Watching.{owns, owns_not, owns_none}
+use Rattle.furnace.proofs.Watching.{owns, owns_not}
 use Rattle.furnace.proofs.watch.owner.Goals as goal
 
 pub returns-then-floor-i : goal.returns-then-floor-i
@@ -20,9 +20,3 @@ loop-k-preserved c =
     let e = c.floor.ensures in
     let h = c.if-floor-i.false in
     owns_not a.chain.now a.n a.i k c.loop-k.invariant (k - 1) (omega arith) (omega (arith, e, h))
-
-pub returns : goal.returns
-returns c =
-    let a = c.args in
-    let t = c.loop-k-test.false in
-    owns_none a.chain.now a.n a.i c.loop-k.k c.loop-k.invariant (omega arith)

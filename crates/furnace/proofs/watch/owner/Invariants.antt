@@ -5,6 +5,3 @@ use Rattle.furnace.proofs.watch.owner.Given as goal
 
 abbrev pub invariant-loop-k : goal.invariant-loop-k
 invariant-loop-k l = owner_in l.chain l.n l.i ≡ owner_in l.chain l.k l.i
-
-abbrev pub decreases-loop-k : goal.decreases-loop-k
-decreases-loop-k l = l.k

@@ -4,4 +4,4 @@ use Rattle.memory_tables.specs.Layout.{base_in}
 use Rattle.furnace.proofs.watch.top_base.Goals as goal
 
 pub returns : goal.returns
-returns c = c.base.ensures ∙ ap (base_in c.args.frames.now) c.last.ensures
+returns c = c.base.ensures ∙ ap (base_in c.args.frames.now) c.saturating_sub.ensures

@@ -12,17 +12,16 @@ use Rattle.heap.specs.Heap.{slots_of}
 use Rattle.heap.specs.declared.value.Class.{Class}
 use Rattle.heap.specs.declared.value.Class.TheVariants as C
 use Rattle.heap.specs.declared.object.Object.TheVariants as O
-use Rattle.heap.specs.declared.heap.Place.{Place}
-use Rattle.heap.specs.declared.heap.Place.TheVariants as P
+use Rattle.std.specs.Prelude.{Option, None}
 use Rattle.heap.specs.contracts.value.Class as Class'
 use Rattle.heap.proofs.Lookups.{beyond, other_tag, same_tag}
 use Rattle.heap.proofs.heap.get.Goals as goal
 
 -- `get` meets its contract: the tests are those of the definition, on the slot that the word numbers. Assumes nothing.
-abbrev look : ℕ → List ℕ → Class → Place
+abbrev look : ℕ → List ℕ → Class → Option ℕ
 look n ws k = get_in O.Empty is_filled (slots_of n ws) k
 
-other : (n : ℕ) (ws : List ℕ) (k : Class) → OneOf (0 ∷ 2 ∷ 3 ∷ []) (tag_of Class'.the_type k) → P.Nothing ≡ look n ws k
+other : (n : ℕ) (ws : List ℕ) (k : Class) → OneOf (0 ∷ 2 ∷ 3 ∷ []) (tag_of Class'.the_type k) → None ≡ look n ws k
 other n ws C.Nil h = refl
 other n ws (C.Ref o) h = absurd (miss (0 ∷ 2 ∷ 3 ∷ []) 1 tt h)
 other n ws (C.Int z) h = refl

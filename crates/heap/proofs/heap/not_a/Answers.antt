@@ -10,11 +10,11 @@ use Rattle.heap.proofs.heap.not_a.Goals as goal
 pub returns-in-Nil : goal.returns-in-Nil
 returns-in-Nil c = ap (λ (k : Class). not_a k (get Empty is_filled (slots_of c.args.count c.args.slots.now) c.args.w.0)) (sym c.in-Nil.is ∙ c.class.ensures)
 
-pub returns-in-Nothing : goal.returns-in-Nothing
-returns-in-Nothing c = ap₂ not_a (sym c.in-Ref.is ∙ c.class.ensures) (sym c.in-Nothing.is ∙ c.get.ensures)
+pub returns-in-None : goal.returns-in-None
+returns-in-None c = ap₂ not_a (sym c.in-Ref.is ∙ c.class.ensures) (sym c.in-None.is ∙ c.get.ensures)
 
-pub returns-in-At : goal.returns-in-At
-returns-in-At c = ap₂ not_a (sym c.in-Ref.is ∙ c.class.ensures) (sym c.in-At.is ∙ c.get.ensures)
+pub returns-in-Some : goal.returns-in-Some
+returns-in-Some c = ap₂ not_a (sym c.in-Ref.is ∙ c.class.ensures) (sym c.in-Some.is ∙ c.get.ensures)
 
 pub returns-in-Int : goal.returns-in-Int
 returns-in-Int c = ap (λ (k : Class). not_a k (get Empty is_filled (slots_of c.args.count c.args.slots.now) c.args.w.0)) (sym c.in-Int.is ∙ c.class.ensures)

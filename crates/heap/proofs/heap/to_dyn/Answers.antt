@@ -3,13 +3,13 @@ use mathlib.Core.Path.{ap, sym, ◌∙◌}
 use Prim.Native.Nat.{ℕ}
 use Rattle.heap.specs.Heap.{out, to_dyn}
 use Rattle.heap.specs.declared.heap.ResultKind.{ResultKind}
-use Rattle.heap.specs.declared.heap.Made.TheVariants as M
+use Rattle.std.specs.Prelude.{Ok}
 use Rattle.heap.proofs.heap.to_dyn.Goals as goal
 
 pub returns-in-None : goal.returns-in-None
 returns-in-None c =
     let a = c.args in
-    ap (λ (w : ℕ). out (M.Done (record { 0 = w }) a.h) a.slots.now) c.nil.ensures
+    ap (λ (w : ℕ). out (Ok (record { 0 = w }, a.h)) a.slots.now) c.nil.ensures
     ∙ ap (λ (k : ResultKind). to_dyn k a.slots.now a.h a.bytes a.n) (sym c.in-None.is)
 
 pub returns-in-Dyn : goal.returns-in-Dyn

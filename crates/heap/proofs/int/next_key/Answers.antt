@@ -7,12 +7,12 @@ use borrow.Author.Tests.{lt-ltb, ltb-true, ltb-false}
 use lib.Dec.{ltb}
 use Rattle.lists.specs.Pick.{pick}
 use Rattle.heap.specs.Int.{next_key}
-use Rattle.heap.specs.declared.int.Exact.TheVariants as X
+use Rattle.std.specs.Prelude.{Some}
 use Rattle.heap.proofs.Coding.{low, high}
 use Rattle.heap.proofs.int.next_key.Goals as goal
 
 -- `next_key` meets its contract: one more on 64 bits is one more on integers, but for the largest. Assumes nothing.
-next : (n : ℕ) (b : Bool) → ltb n (2 ^ 63) ≡ b → n < 2 ^ 64 → (n ≡ 2 ^ 63 - 1 → ⊥) → (n ≡ 2 ^ 64 - 1 → ⊥) → X.Fits (n + 1) ≡ next_key n
+next : (n : ℕ) (b : Bool) → ltb n (2 ^ 63) ≡ b → n < 2 ^ 64 → (n ≡ 2 ^ 63 - 1 → ⊥) → (n ≡ 2 ^ 64 - 1 → ⊥) → Some (n + 1) ≡ next_key n
 unfolding pick
 next n true e f h k =
     let l = ltb-true n (2 ^ 63) e in
@@ -20,7 +20,7 @@ next n true e f h k =
 next n false e f h k =
     let l = ltb-false n (2 ^ 63) e in
     rw (high 63 n l)
-    (rw (lt-ltb 1 (suc (2 ^ 64 - suc n)) (omega arith), lt-ltb (suc (2 ^ 64 - suc n) - 2) (2 ^ 63) (omega arith)) (ap X.Fits (omega arith)))
+    (rw (lt-ltb 1 (suc (2 ^ 64 - suc n)) (omega arith), lt-ltb (suc (2 ^ 64 - suc n) - 2) (2 ^ 63) (omega arith)) (ap Some (omega arith)))
 
 pub returns-then-largest-eq-MOST_INT : goal.returns-then-largest-eq-MOST_INT
 unfolding pick

@@ -9,17 +9,12 @@ use Rattle.heap.proofs.kind.is_done.Goals as goal
 pub done_at-requires : goal.done_at-requires
 done_at-requires c =
     let a = c.args in
-    found-words a.count a.slots.now a.w.0 c.in-At.n (sym c.in-At.is ∙ c.get.ensures) c.requires
+    found-words a.count a.slots.now a.w.0 c.in-Some.i (sym c.in-Some.is ∙ c.get.ensures) c.requires
 
-pub returns-in-Nothing : goal.returns-in-Nothing
-returns-in-Nothing c =
+pub returns : goal.returns
+returns c =
     let a = c.args in
-    ap (done_by (slots_of a.count a.slots.now)) (sym c.in-Nothing.is ∙ c.get.ensures)
-
-pub returns-in-At : goal.returns-in-At
-returns-in-At c =
-    let a = c.args in
-    let found = sym c.in-At.is ∙ c.get.ensures in
+    let found = sym c.in-Some.is ∙ c.get.ensures in
     c.done_at.ensures
-    ∙ ap is_done (found-object a.count a.slots.now a.w.0 c.in-At.n found)
+    ∙ ap is_done (found-object a.count a.slots.now a.w.0 c.in-Some.i found)
     ∙ ap (done_by (slots_of a.count a.slots.now)) found

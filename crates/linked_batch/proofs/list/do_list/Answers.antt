@@ -48,8 +48,8 @@ one-requires c =
     let t = c.loop-i-test.true in let r = c.requires.room in let k = c.loop-i.invariant.along.long in
     record { put = record { sound = c.loop-i.invariant.sound; room = omega (arith, t, r, k) }; call = in-calls c.args.calls.now c.loop-i.i c.args.n c.requires.calls t }
 
-pub overflow_add-i : goal.overflow_add-i
-overflow_add-i c = let t = c.loop-i-test.true in omega (arith, t)
+pub overflow_step-i : goal.overflow_step-i
+overflow_step-i c = let t = c.loop-i-test.true in omega (arith, t)
 
 pub loop-i-smaller : goal.loop-i-smaller
 loop-i-smaller c = let t = c.loop-i-test.true in omega (arith, t)

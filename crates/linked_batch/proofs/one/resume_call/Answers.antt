@@ -35,7 +35,7 @@ pub may_enter-requires : goal.may_enter-requires
 may_enter-requires c = enters-fit (of c.before.before.before.before.before.before.before.before.before.before.before.before.before.before) c.requires.put.sound
 
 pub resume_at-requires : goal.resume_at-requires
-resume_at-requires c = record { held = holds (of c.before.before.before.before.before.before.before.before.before.before.before.before.before.before.before.before.before.before.before.before.before.before.before.before) c.requires.put.sound c.args.pc c.requires.narrow; enterable = c.may_enter.ensures.at _ _ c.in-At.is }
+resume_at-requires c = record { held = holds (of c.before.before.before.before.before.before.before.before.before.before.before.before.before.before.before.before.before.before.before.before.before.before.before.before) c.requires.put.sound c.args.pc c.requires.narrow; enterable = c.may_enter.ensures.at _ _ c.in-Some.is }
 
 pub goes_on_at-requires : goal.goes_on_at-requires
 goes_on_at-requires c = c.requires.put.room
@@ -43,10 +43,10 @@ goes_on_at-requires c = c.requires.put.room
 pub general_at-requires : goal.general_at-requires
 general_at-requires c = c.requires.put
 
-pub returns-in-At : goal.returns-in-At
-returns-in-At c =
+pub returns-in-Some : goal.returns-in-Some
+returns-in-Some c =
     let a = c.args in
-    let sure = c.requires.put.sound in let may = c.may_enter.ensures.at _ _ c.in-At.is in
+    let sure = c.requires.put.sound in let may = c.may_enter.ensures.at _ _ c.in-Some.is in
     let k = c.resume_at.auto in let s = c.resume_at.new in let w = c.ranges in
     let short = low (of c.before.before.before.before.before.before.before.before.before.before.before.before.before.before.before.before.before.before.before.before.before.before.before.before.before.before.before.before.before.before.before.before.before.before.before.before.before.before.before.before.before.before.before.before.before) sure in let op = Op.Resume a.pc a.dst a.c a.src in
     switch-one (of c.before.before.before.before.before.before.before.before.before.before.before.before.before.before.before.before.before.before.before.before.before.before.before.before.before.before.before.before.before.before.before.before.before.before.before.before.before.before.before.before.before.before.before.before.before) sure op (resume-typed a.pc a.dst a.c a.src c.requires.narrow
@@ -57,23 +57,23 @@ returns-in-At c =
     (record { stack = k.stack; frames = k.frames; chain = k.chain; slots = k.slots; saved_stack = k.saved_stack; saved_frames = k.saved_frames; ready = refl; finalize = refl; setup = refl })
     c.resume_at.ensures refl) c.goes_on_at.ensures
 
-pub shape_of-stack-in-Not : goal.shape_of-stack-in-Not
-shape_of-stack-in-Not c = c.general_at.auto.stack
+pub shape_of-stack-in-None : goal.shape_of-stack-in-None
+shape_of-stack-in-None c = c.general_at.auto.stack
 
-pub shape_of-frames-in-Not : goal.shape_of-frames-in-Not
-shape_of-frames-in-Not c = c.general_at.auto.frames
+pub shape_of-frames-in-None : goal.shape_of-frames-in-None
+shape_of-frames-in-None c = c.general_at.auto.frames
 
-pub shape_of-chain-in-Not : goal.shape_of-chain-in-Not
-shape_of-chain-in-Not c = c.general_at.auto.chain
+pub shape_of-chain-in-None : goal.shape_of-chain-in-None
+shape_of-chain-in-None c = c.general_at.auto.chain
 
-pub shape_of-slots-in-Not : goal.shape_of-slots-in-Not
-shape_of-slots-in-Not c = c.general_at.auto.slots
+pub shape_of-slots-in-None : goal.shape_of-slots-in-None
+shape_of-slots-in-None c = c.general_at.auto.slots
 
-pub shape_of-saved_stack-in-Not : goal.shape_of-saved_stack-in-Not
-shape_of-saved_stack-in-Not c = c.general_at.auto.saved_stack
+pub shape_of-saved_stack-in-None : goal.shape_of-saved_stack-in-None
+shape_of-saved_stack-in-None c = c.general_at.auto.saved_stack
 
-pub shape_of-saved_frames-in-Not : goal.shape_of-saved_frames-in-Not
-shape_of-saved_frames-in-Not c = c.general_at.auto.saved_frames
+pub shape_of-saved_frames-in-None : goal.shape_of-saved_frames-in-None
+shape_of-saved_frames-in-None c = c.general_at.auto.saved_frames
 
 pub shape_of-ready : goal.shape_of-ready
 shape_of-ready c = c.general_at.auto.ready
@@ -81,14 +81,14 @@ shape_of-ready c = c.general_at.auto.ready
 pub shape_of-finalize : goal.shape_of-finalize
 shape_of-finalize c = c.general_at.auto.finalize
 
-pub shape_of-machine-in-Not : goal.shape_of-machine-in-Not
-shape_of-machine-in-Not c = c.general_at.auto.machine
+pub shape_of-machine-in-None : goal.shape_of-machine-in-None
+shape_of-machine-in-None c = c.general_at.auto.machine
 
-pub shape_of-fuel-in-Not : goal.shape_of-fuel-in-Not
-shape_of-fuel-in-Not c = c.general_at.auto.fuel
+pub shape_of-fuel-in-None : goal.shape_of-fuel-in-None
+shape_of-fuel-in-None c = c.general_at.auto.fuel
 
-pub shape_of-answers-in-Not : goal.shape_of-answers-in-Not
-shape_of-answers-in-Not c = c.general_at.auto.answers
+pub shape_of-answers-in-None : goal.shape_of-answers-in-None
+shape_of-answers-in-None c = c.general_at.auto.answers
 
-pub returns-in-Not : goal.returns-in-Not
-returns-in-Not c = c.general_at.ensures
+pub returns-in-None : goal.returns-in-None
+returns-in-None c = c.general_at.ensures

@@ -1,7 +1,6 @@
 -- `enter_at` meets the model: an entry that nothing refuses. Assumes nothing.
 use mathlib.Core.Path.{refl}
 use native.Mathlib.Omega.{arith}
-use Rattle.heap.specs.declared.fault.Fault.{Fault}
 use Rattle.model.specs.declared.machine.Driver.{Driver}
 use Rattle.memory_world.specs.Memory.{Lent, Beside}
 use Rattle.memory_world.specs.Lendings.{lent}
@@ -32,6 +31,6 @@ put_entered-requires c = (sum c.requires).slot
 pub returns : goal.returns
 returns c =
     let a = c.args in
-    λ w b rep snd. accepted (sizes_in a.machine.now) (mem c.before.before.before.before.before.before.before.before.before.before.before.before.before.before.before.before.before.before.before.before.before.before.before.before.before.before.before.before.before.before.before b) (machine_in a.machine.now) b.fuel a.v w rep a.i (record_at a.slots.now a.i) (found c.requires) snd Fault.None
-    c.requires.may.fits refl (Driver.Resume a.dst) _ _ _ _ _ _ _ _ c.move_in.ensures
+    λ w b rep snd. accepted (sizes_in a.machine.now) (mem c.before.before.before.before.before.before.before.before.before.before.before.before.before.before.before.before.before.before.before.before.before.before.before.before.before.before.before.before.before.before.before b) (machine_in a.machine.now) b.fuel a.v w rep a.i (record_at a.slots.now a.i) (found c.requires) snd tt
+    c.requires.may.fits (Driver.Resume a.dst) _ _ _ _ _ _ _ _ c.move_in.ensures
     c.push_active.ensures c.put_entered.ensures refl refl

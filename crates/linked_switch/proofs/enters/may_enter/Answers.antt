@@ -4,7 +4,7 @@ use Prim.Native.Nat.{◌+◌}
 use native.Mathlib.Omega.{arith}
 use lib.ListN.{get_or}
 use Rattle.heap.specs.Heap.{SlotFits, slots_of, coro_of, place_of}
-use Rattle.heap.specs.declared.heap.CoroPlace.TheVariants as L
+use Rattle.std.specs.Prelude.{Ok}
 use Rattle.heap.proofs.Place.{stands-words}
 use Rattle.memory_tables.proofs.Doing.{gets}
 use Rattle.coro_enter.proofs.Parts.{by-nothing}
@@ -22,8 +22,8 @@ use Rattle.linked_switch.proofs.enters.may_enter.Goals as goal
 abbrev After-coro_place : Type 0
 After-coro_place = lts.After-coro_place tie.the-claims reads.Pre reads.Post
 
-abbrev In-At : Type 0
-In-At = lts.Past-After-known_told tie.the-claims reads.Pre reads.Post
+abbrev In-Ok : Type 0
+In-Ok = lts.Past-After-known_told tie.the-claims reads.Pre reads.Post
 
 abbrev After-is_resumable : Type 0
 After-is_resumable = lts.After-is_resumable tie.the-claims reads.Pre reads.Post
@@ -35,17 +35,17 @@ named c =
     c.coro_place.ensures ∙ ap (λ b. place_of (coro_of (slots_of (machine_in a.machine.now).count a.slots.now) (get_or a.stack.now (b + a.c) 0)))
     c.base_at-base.ensures
 
-found : (c : In-At) → let a = c.args in L.At c.in-At.i ≡ to_enter a.stack.now a.frames.now a.slots.now a.machine.now a.c
-found c = sym c.in-At.is ∙ named c.before
+found : (c : In-Ok) → let a = c.args in Ok c.in-Ok.i ≡ to_enter a.stack.now a.frames.now a.slots.now a.machine.now a.c
+found c = sym c.in-Ok.is ∙ named c.before
 
 -- its slot lies in the slice
-slot : (c : In-At) → SlotFits c.args.slots.now c.in-At.i
+slot : (c : In-Ok) → SlotFits c.args.slots.now c.in-Ok.i
 slot c =
     let a = c.args in
-    stands-words (machine_in a.machine.now).count a.slots.now (get_or a.stack.now (top_in a.frames.now a.machine.now + a.c) 0) c.in-At.i (found c) c.requires.in-slots
+    stands-words (machine_in a.machine.now).count a.slots.now (get_or a.stack.now (top_in a.frames.now a.machine.now + a.c) 0) c.in-Ok.i (found c) c.requires.in-slots
 
 -- what its state tells
-state-of : (c : After-is_resumable) → c.is_resumable.result ≡ is_resumable (record_at c.args.slots.now c.in-At.i).state
+state-of : (c : After-is_resumable) → c.is_resumable.result ≡ is_resumable (record_at c.args.slots.now c.in-Ok.i).state
 state-of c = c.is_resumable.ensures ∙ ap is_resumable c.state_at-state.ensures
 
 pub returns-then-machine-eq0 : goal.returns-then-machine-eq0
@@ -87,12 +87,12 @@ regs_at-requires c = slot c.before.before.before.before.before.before.before.bef
 pub returns-then-machine-regs_at : goal.returns-then-machine-regs_at
 returns-then-machine-regs_at c = no_stack (found c.before.before.before.before.before.before.before.before.before.before.before.before.before) (omega arith)
 
-pub returns-in-Not : goal.returns-in-Not
-returns-in-Not c = no_place (sym c.in-Not.is ∙ named c.before.before)
+pub returns-in_default : goal.returns-in_default
+returns-in_default c = no_place (sym c.in_default.is ∙ named c.before.before)
 
-pub returns-else-machine-regs_at : goal.returns-else-machine-regs_at
-returns-else-machine-regs_at c =
-    let ms = c.args.machine.now in let k = record_at c.args.slots.now c.in-At.i in
+pub returns : goal.returns
+returns c =
+    let ms = c.args.machine.now in let k = record_at c.args.slots.now c.in-Ok.i in
     let low = c.base_at-base.ensures in let above = c.if-machine-base.false in let in_c = c.if-wide-c.false in
     let some = some-active _ c.if-machine-eq0.false in let deep = c.requires.deep in let high = c.requires.high in
     let state = sym (state-of c.before.before.before.before.before.before.before.before.before.before.before) ∙ c.if-not-is_resumable.false in
@@ -109,7 +109,7 @@ returns-else-machine-regs_at c =
       is = gets _ _ _ _ _ (record { some = some; on-frames = c.requires.on-frames; below = omega (arith, low, above, in_c); on-stack = c.requires.on-stack }) _ low;
       may =
           record {
-            found = sym c.in-At.is ∙ c.coro_place.ensures;
+            found = sym c.in-Ok.is ∙ c.coro_place.ensures;
             fits = by-nothing (machine_in ms).height (machine_in ms).depth (sizes_in ms) k state saved deep high (omega (arith, n, under)) (omega (arith, r, fitted));
           };
     })

@@ -5,7 +5,7 @@ use Prim.Native.Nat.{◌≤◌, ◌<◌}
 use native.Mathlib.Omega.{arith}
 use Rattle.heap.specs.Int.{next_key}
 use Rattle.heap.specs.Heap.{SlotFits, slots_of, coro_of, place_of}
-use Rattle.heap.specs.declared.heap.CoroPlace.TheVariants as L
+use Rattle.std.specs.Prelude.{Ok}
 use Rattle.heap.proofs.Place.{stands-words}
 use Rattle.model.specs.declared.machine.Active.{Active}
 use Rattle.model.specs.declared.machine.Driver.{Driver}
@@ -15,26 +15,26 @@ use Rattle.linked_calls.specs.Words.{machine_in}
 use Rattle.linked_switch.specs.Words.{record_at}
 use Rattle.linked_switch.specs.Leave.{innermost_in}
 use Rattle.linked_switch.specs.Leaves.{by_resume, to_leave}
-use Rattle.linked_switch.proofs.Leavable.{no-frame, no_fuel, none_runs, no-dst, no_src, not-resume, no-resume, no_place, closing, too_wide, too-deep, no_key, no_word, at_slot}
+use Rattle.linked_switch.proofs.Leavable.{as-none, no-frame, no_fuel, none_runs, no-dst, no_src, not-resume, no-resume, no_place, closing, too_wide, too-deep, no_key, no_word, at_slot}
 use Rattle.linked_switch.proofs.leaves.may_leave.Lts as lts
 use Rattle.linked_switch.proofs.leaves.may_leave.Reads as reads
 use Rattle.linked_switch.proofs.leaves.may_leave.Tie as tie
 use Rattle.linked_switch.proofs.leaves.may_leave.Goals as goal
 
 abbrev After-active_at-a : Type 0
-After-active_at-a = lts.After-active_at tie.the-claims reads.Pre reads.Post
+After-active_at-a = lts.After-active_at tie.the-claims reads.Pre reads.Post tie.handed_clauses
 
 abbrev After-coro_place : Type 0
-After-coro_place = lts.After-coro_place tie.the-claims reads.Pre reads.Post
+After-coro_place = lts.After-coro_place tie.the-claims reads.Pre reads.Post tie.handed_clauses
 
-abbrev In-At : Type 0
-In-At = lts.Past-After-known_told2 tie.the-claims reads.Pre reads.Post
+abbrev In-Ok : Type 0
+In-Ok = lts.Past-After-known_told2 tie.the-claims reads.Pre reads.Post tie.handed_clauses
 
 abbrev After-base_at-base : Type 0
-After-base_at-base = lts.After-base_at2 tie.the-claims reads.Pre reads.Post
+After-base_at-base = lts.After-base_at2 tie.the-claims reads.Pre reads.Post tie.handed_clauses
 
 abbrev After-next_key : Type 0
-After-next_key = lts.After-next_key tie.the-claims reads.Pre reads.Post
+After-next_key = lts.After-next_key tie.the-claims reads.Pre reads.Post tie.handed_clauses
 
 -- what the innermost coroutine's word names
 named : (c : After-coro_place) → let a = c.args in c.coro_place.result ≡ to_leave a.chain.now a.slots.now a.machine.now
@@ -42,14 +42,14 @@ named c =
     let a = c.args in
     c.coro_place.ensures ∙ ap (λ (x : Active). place_of (coro_of (slots_of (machine_in a.machine.now).count a.slots.now) x.coro)) c.active_at-a.ensures
 
-found : (c : In-At) → let a = c.args in L.At c.in-At.i ≡ to_leave a.chain.now a.slots.now a.machine.now
-found c = sym c.in-At.is ∙ named c.before
+found : (c : In-Ok) → let a = c.args in Ok c.in-Ok.slot ≡ to_leave a.chain.now a.slots.now a.machine.now
+found c = sym c.in-Ok.is ∙ named c.before
 
 -- its slot lies in the slice
-slot : (c : In-At) → SlotFits c.args.slots.now c.in-At.i
+slot : (c : In-Ok) → SlotFits c.args.slots.now c.in-Ok.slot
 slot c =
     let a = c.args in
-    stands-words (machine_in a.machine.now).count a.slots.now (innermost_in a.chain.now (machine_in a.machine.now)).coro c.in-At.i (found c) c.requires.in-slots
+    stands-words (machine_in a.machine.now).count a.slots.now (innermost_in a.chain.now (machine_in a.machine.now)).coro c.in-Ok.slot (found c) c.requires.in-slots
 
 runs : (c : After-active_at-a) → 1 ≤ (machine_in c.args.machine.now).active
 runs c = some-active _ c.if-machine-eq0-2.false
@@ -67,11 +67,11 @@ based : (c : After-base_at-base) →
 based c =
     c.base_at-base.ensures ∙ ap (λ (x : Active). base_in c.args.frames.now x.floor) c.active_at-a.ensures
 
-next-key : (c : After-next_key) → c.next_key.result ≡ next_key (record_at c.args.slots.now c.in-At.i).largest
+next-key : (c : After-next_key) → c.next_key.result ≡ next_key (record_at c.args.slots.now c.in-Ok.slot).largest
 next-key c = c.next_key.ensures ∙ ap next_key c.largest_at.ensures
 
 -- a Resume waits for it
-by-resume : (c : In-At) → c.active_at-a.result.driver ≡ Driver.Resume c.in-Resume.to
+by-resume : (c : In-Ok) → c.active_at-a.result.driver ≡ Driver.Resume c.in-Resume.to
 by-resume c = c.in-Resume.is
 
 pub returns-then-machine-eq0 : goal.returns-then-machine-eq0
@@ -113,11 +113,8 @@ base_at-base-requires c = let f = floored c.before.before.before.before.before.b
 pub maxregs_at-requires : goal.maxregs_at-requires
 maxregs_at-requires c = slot c.before.before.before.before
 
-pub bounds-machine-0-in-At : goal.bounds-machine-0-in-At
-bounds-machine-0-in-At c = let h = c.requires.words in omega (arith, h)
-
-pub overflow_sub-machine-in-At : goal.overflow_sub-machine-in-At
-overflow_sub-machine-in-At c =
+pub overflow_sub-machine-3 : goal.overflow_sub-machine-3
+overflow_sub-machine-3 c =
     let e = based c.before.before.before in
     let h = c.requires.base (runs c.before.before.before.before.before.before.before.before.before.before) in omega (arith, h, e)
 
@@ -127,11 +124,8 @@ returns-then-maxregs_at-machine c = let e = based c.before.before.before.before 
 pub maxframes_at-requires : goal.maxframes_at-requires
 maxframes_at-requires c = slot c.before.before.before.before.before.before.before
 
-pub bounds-machine-1-in-At : goal.bounds-machine-1-in-At
-bounds-machine-1-in-At c = let h = c.requires.words in omega (arith, h)
-
-pub overflow_sub-machine-in-At-2 : goal.overflow_sub-machine-in-At-2
-overflow_sub-machine-in-At-2 c = let f = floored c.before.before.before.before.before.before.before.before.before.before.before.before.before.before in omega (arith, f)
+pub overflow_sub-machine-4 : goal.overflow_sub-machine-4
+overflow_sub-machine-4 c = let f = floored c.before.before.before.before.before.before.before.before.before.before.before.before.before.before in omega (arith, f)
 
 pub returns-then-maxframes_at-machine : goal.returns-then-maxframes_at-machine
 returns-then-maxframes_at-machine c =
@@ -141,22 +135,27 @@ returns-then-maxframes_at-machine c =
 pub largest_at-requires : goal.largest_at-requires
 largest_at-requires c = slot c.before.before.before.before.before.before.before.before.before.before.before
 
-pub returns-in-Not : goal.returns-in-Not
-returns-in-Not c = no_place (sym c.in-Not.is ∙ named c.before.before)
+pub returns-in_default-coro_place : goal.returns-in_default-coro_place
+returns-in_default-coro_place c = no_place (sym c.in_default-coro_place.is ∙ named c.before.before)
 
-pub returns-in-Over : goal.returns-in-Over
-returns-in-Over c = no_key (found c.before.before.before.before.before.before.before.before.before.before.before.before.before.before) (sym c.in-Over.is ∙ next-key c.before.before)
+pub returns-in_err-largest : goal.returns-in_err-largest
+returns-in_err-largest c =
+    as-none c.from_residual.ensures
+    (no_key (found c.before.before.before.before.before.before.before.before.before.before.before.before.before.before.before.before) (sym c.in_err-largest.was ∙ next-key c.before.before.before.before))
 
-pub returns-in-Large : goal.returns-in-Large
-returns-in-Large c = no_word (found c.before.before.before.before.before.before.before.before.before.before.before.before.before.before.before.before) (sym c.in-Fits.is ∙ next-key c.before.before.before.before) (sym c.in-Large.is ∙ c.inline_int.ensures)
+pub returns-in_err-key : goal.returns-in_err-key
+returns-in_err-key c =
+    as-none c.from_residual-in_err-key.ensures
+    (no_word (found c.before.before.before.before.before.before.before.before.before.before.before.before.before.before.before.before.before.before.before) (sym c.in_ok-largest.was ∙ next-key c.before.before.before.before.before.before.before)
+    (sym c.in_err-key.was ∙ c.inline_int.ensures))
 
-pub returns-in-At-inline_int : goal.returns-in-At-inline_int
-returns-in-At-inline_int c =
+pub returns : goal.returns
+returns c =
     let is = c.active_at-a.ensures in
     let low = c.base_at-low.ensures in let above = c.if-machine-low.false in
-    let run = runs c.before.before.before.before.before.before.before.before.before.before.before.before.before.before.before.before.before.before.before.before in let e = based c.before.before.before.before.before.before.before.before.before.before.before.before.before in let f = ap (λ (x : Active). x.floor) is in
+    let run = runs c.before.before.before.before.before.before.before.before.before.before.before.before.before.before.before.before.before.before.before.before.before.before in let e = based c.before.before.before.before.before.before.before.before.before.before.before.before.before.before.before in let f = ap (λ (x : Active). x.floor) is in
     let wide = c.maxregs_at.ensures in let deep = c.maxframes_at.ensures in
-    at_slot (found c.before.before.before.before.before.before.before.before.before.before.before.before.before.before.before.before)
+    at_slot (found c.before.before.before.before.before.before.before.before.before.before.before.before.before.before.before.before.before.before)
     (record {
       some = some-active _ c.if-machine-eq0.false;
       paid = some-active _ c.if-fuel-eq0.false;
@@ -166,15 +165,15 @@ returns-in-At-inline_int c =
           record {
             running = run;
             floor = c.requires.floor run;
-            found = found c.before.before.before.before.before.before.before.before.before.before.before.before.before.before.before.before;
+            found = found c.before.before.before.before.before.before.before.before.before.before.before.before.before.before.before.before.before.before;
             unclosed = sym c.closing_at.ensures ∙ c.if-closing_at.false;
             wide = omega (arith, e, wide, c.if-maxregs_at-machine.false);
             deep = omega (arith, f, deep, c.if-maxframes_at-machine.false);
           };
       keyed =
           record {
-            next = sym c.in-Fits.is ∙ next-key c.before.before.before.before;
-            inline = sym c.in-At-inline_int.is ∙ c.inline_int.ensures;
+            next = sym c.in_ok-largest.was ∙ next-key c.before.before.before.before.before.before;
+            inline = sym c.in_ok-key.was ∙ c.inline_int.ensures;
           };
-      driven = ap (λ (x : Active). x.driver) (sym is) ∙ by-resume c.before.before.before.before.before.before.before.before.before.before.before.before.before.before.before.before;
+      driven = ap (λ (x : Active). x.driver) (sym is) ∙ by-resume c.before.before.before.before.before.before.before.before.before.before.before.before.before.before.before.before.before.before;
     })

@@ -32,22 +32,22 @@ pub may_leave-requires : goal.may_leave-requires
 may_leave-requires c = leaves-fit (of c.before.before.before.before.before.before.before.before.before.before) c.requires.sound
 
 pub yield_at-requires : goal.yield_at-requires
-yield_at-requires c = record { held = holds (of c.before.before.before.before.before.before.before.before.before.before.before.before.before.before.before.before.before.before.before) c.requires.sound c.args.pc c.ranges.pc.fits; leavable = c.may_leave.ensures.at _ _ _ _ c.in-At.is }
+yield_at-requires c = record { held = holds (of c.before.before.before.before.before.before.before.before.before.before.before.before.before.before.before.before.before.before.before) c.requires.sound c.args.pc c.ranges.pc.fits; leavable = c.may_leave.ensures.at _ c.in-Some.is }
 
-pub returns-in-At : goal.returns-in-At
-returns-in-At c =
+pub returns-in-Some : goal.returns-in-Some
+returns-in-Some c =
     let a = c.args in
     let k = c.yield_at.auto in
     let s = c.yield_at.new in
     done-here a.stack.now a.frames.now a.chain.now a.slots.now a.saved_stack.now a.saved_frames.now a.machine.now a.fuel.now
     s.stack s.frames s.chain s.slots s.saved_stack s.saved_frames s.machine s.fuel
     (Op.Yield a.pc a.dst a.src) (may_leave a.frames.now a.chain.now a.slots.now a.machine.now (get_or a.fuel.now 0 0) a.dst a.src)
-    (sym (ap leaves c.in-At.is) ∙ c.may_leave.ensures.told)
+    (sym (ap leaves c.in-Some.is) ∙ c.may_leave.ensures.told)
     (λ b. record { stack = k.stack; frames = k.frames; chain = k.chain; slots = k.slots; saved_stack = k.saved_stack; saved_frames = k.saved_frames; ready = refl; finalize = refl; setup = refl })
     c.yield_at.ensures
 
-pub returns-in-Not : goal.returns-in-Not
-returns-in-Not c =
+pub returns-in-None : goal.returns-in-None
+returns-in-None c =
     let a = c.args in
     not-here (Op.Yield a.pc a.dst a.src) (may_leave a.frames.now a.chain.now a.slots.now a.machine.now (get_or a.fuel.now 0 0) a.dst a.src) (mem c.before.before.before.before.before.before.before.before.before.before.before.before)
-    a.machine.now a.fuel.now (sym (ap leaves c.in-Not.is) ∙ c.may_leave.ensures.told)
+    a.machine.now a.fuel.now (sym (ap leaves c.in-None.is) ∙ c.may_leave.ensures.told)

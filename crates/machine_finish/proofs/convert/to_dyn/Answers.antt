@@ -12,16 +12,16 @@ to_dyn-requires c =
     let p₂ = c.requires.slots in
     record { words = omega arith; slots = omega arith }
 
-pub returns-in-Refused : goal.returns-in-Refused
-returns-in-Refused c =
+pub returns-in-Err : goal.returns-in-Err
+returns-in-Err c =
     let a = c.args in
     λ w b rep.
     dyn-refused a.sizes (table a.slots.now plain b) a.m b.fuel w rep c.to_dyn.new.slots a.kind a.v c.heap_of.result c.to_dyn.result c.to_dyn.ensures
-    c.heap_of.ensures c.in-Refused.g c.in-Refused.is
+    c.heap_of.ensures c.in-Err.g c.in-Err.is
 
-pub returns-in-Done : goal.returns-in-Done
-returns-in-Done c =
+pub returns-in-Ok : goal.returns-in-Ok
+returns-in-Ok c =
     let a = c.args in
     λ w b rep.
     dyn-made a.sizes (table a.slots.now plain b) a.m b.fuel w rep c.to_dyn.new.slots a.kind a.v c.heap_of.result c.to_dyn.result c.to_dyn.ensures
-    c.heap_of.ensures c.requires.words c.in-Done.x c.in-Done.h c.allocated.result c.in-Done.is c.allocated.ensures
+    c.heap_of.ensures c.requires.words c.in-Ok.x c.in-Ok.h c.allocated.result c.in-Ok.is c.allocated.ensures

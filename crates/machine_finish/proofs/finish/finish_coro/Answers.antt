@@ -53,18 +53,18 @@ coro_returned-told-requires c =
     (lent p.new.stack p.new.frames a.chain.now f.new.slots a.saved_stack.now a.saved_frames.now) p.result
     (p.ensures a.sizes (to_dyn a.kind a.v o.world).world (under c.before.before.before.before.before.before.before.before.before.before.before.before.before.before.before.before.before.before.before.before.before.before.before.before.before f.new.slots o.beside) (f.ensures o.world (around c.before.before.before.before.before.before.before.before.before.before.before.before.before.before.before.before.before.before.before.before.before.before.before.before.before o.beside) o.rep).world)
 
-pub returns-in-Refused : goal.returns-in-Refused
-returns-in-Refused c =
+pub returns-in-Err : goal.returns-in-Err
+returns-in-Err c =
     let a = c.args in let f = c.to_dyn-did in
     λ w b rep snd.
     let d = f.ensures w (around c.before.before.before.before.before.before.before.before.before.before.before.before.before (record { words = b.words; fuel = a.fuel })) rep in
-    body_refused a.sizes (mem c.before.before.before.before.before.before.before.before.before.before.before.before.before f.new.slots b) f.result.machine a.fuel w a.kind a.v (top c.before.before.before.before.before.before.before.before.before.before.before.before.before w b rep) c.in-Refused.e (sym c.in-Refused.is ∙ d.answer) d.world
+    body_refused a.sizes (mem c.before.before.before.before.before.before.before.before.before.before.before.before.before f.new.slots b) f.result.machine a.fuel w a.kind a.v (top c.before.before.before.before.before.before.before.before.before.before.before.before.before w b rep) c.in-Err.e (sym c.in-Err.is ∙ d.answer) d.world
 
-pub shape_of-slots-in-Word : goal.shape_of-slots-in-Word
-shape_of-slots-in-Word c = c.coro_returned-told.auto.slots ∙ c.to_dyn-did.auto.slots
+pub shape_of-slots-in-Ok : goal.shape_of-slots-in-Ok
+shape_of-slots-in-Ok c = c.coro_returned-told.auto.slots ∙ c.to_dyn-did.auto.slots
 
-pub returns-in-Word : goal.returns-in-Word
-returns-in-Word c =
+pub returns-in-Ok : goal.returns-in-Ok
+returns-in-Ok c =
     let a = c.args in let f = c.to_dyn-did in let p = c.pop-k in let g = c.coro_returned-told in
     λ w b rep snd.
     let u = (to_dyn a.kind a.v w).world in
@@ -76,4 +76,4 @@ returns-in-Word c =
     let q = popped-to a.sizes N p.result a.fuel u t.top t.rest (dyn-top a.kind a.v w snd t) r in
     let L = g.new in
     body-returns a.sizes (lent L.stack L.frames L.chain L.slots L.saved_stack L.saved_frames b) g.result.machine g.result.fuel w a.kind a.v t
-    c.in-Word.x (sym c.in-Word.is ∙ d.answer) (g.ensures (pop_to t.top t.rest u) b q (sound-rowed u (dyn-sounds a.kind a.v w snd)))
+    c.in-Ok.x (sym c.in-Ok.is ∙ d.answer) (g.ensures (pop_to t.top t.rest u) b q (sound-rowed u (dyn-sounds a.kind a.v w snd)))

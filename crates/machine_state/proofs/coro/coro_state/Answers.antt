@@ -6,14 +6,14 @@ use Rattle.machine_state.proofs.Named.{state-none, state-at}
 use Rattle.machine_state.proofs.coro.coro_state.Goals as goal
 
 pub state_at-s-requires : goal.state_at-s-requires
-state_at-s-requires c = stands-words c.args.m.count c.args.slots.now c.args.v.0 c.in-At.i (sym c.in-At.is ∙ c.coro_place.ensures) c.requires
+state_at-s-requires c = stands-words c.args.m.count c.args.slots.now c.args.v.0 c.in-Ok.i (sym c.in-Ok.is ∙ c.coro_place.ensures) c.requires
 
-pub returns-in-Not : goal.returns-in-Not
-returns-in-Not c =
+pub returns-in-Err : goal.returns-in-Err
+returns-in-Err c =
     let a = c.args in
-    λ l w b rep. state-none l (table a.slots.now plain b) a.m b.fuel a.v.0 w rep _ (sym c.in-Not.is ∙ c.coro_place.ensures)
+    λ l w b rep. state-none l (table a.slots.now plain b) a.m b.fuel a.v.0 w rep _ (sym c.in-Err.is ∙ c.coro_place.ensures)
 
-pub returns-in-At : goal.returns-in-At
-returns-in-At c =
+pub returns-in-Ok : goal.returns-in-Ok
+returns-in-Ok c =
     let a = c.args in
-    λ l w b rep. state-at l (table a.slots.now plain b) a.m b.fuel a.v.0 w rep c.in-At.i _ (sym c.in-At.is ∙ c.coro_place.ensures) c.state_at-s.ensures
+    λ l w b rep. state-at l (table a.slots.now plain b) a.m b.fuel a.v.0 w rep c.in-Ok.i _ (sym c.in-Ok.is ∙ c.coro_place.ensures) c.state_at-s.ensures

@@ -1,6 +1,6 @@
 -- `push_frame` meets its contract, refused or done. Assumes nothing.
 use mathlib.Core.Path.{sym, ap, ◌∙◌, subst}
-use Rattle.model.specs.declared.coro.WordOr.{WordOr}
+use Rattle.std.specs.Prelude.{Ok}
 use Rattle.memory_world.specs.Memory.{Lent, Beside, on_stack, on_frames, on_setup}
 use Rattle.memory_world.specs.Contract.{Does}
 use Prim.Native.Nat.{◌+◌, ◌^◌, ◌<◌}
@@ -54,7 +54,7 @@ returns c =
     λ w b rep snd. let q = c.requires.ok.room.stack in
     let z = c.requires.ok.rep.sizes.stack in
     subst (λ z. Does c.args.sizes (push_frame c.args.f c.args.closure c.args.cont w) (on_frames c.push_frame.new.frames
-    (mem c.before.before.before.before.before.before.before.before.before.before.before.before b)) z b.fuel (WordOr.Word c.args.m.height)) (sym (c.grown.ensures ∙ ap (pushed c.args.m) c.regs_at-n.ensures))
+    (mem c.before.before.before.before.before.before.before.before.before.before.before.before b)) z b.fuel (Ok c.args.m.height)) (sym (c.grown.ensures ∙ ap (pushed c.args.m) c.regs_at-n.ensures))
     (push-done c.args.sizes w (mem c.before.before.before.before.before.before.before.before.before.before.before.before b) c.args.m b.fuel rep snd c.args.f c.requires.function c.args.closure
     c.args.cont (omega arith) (ap (overflowing c.args.m c.args.sizes) (sym c.regs_at-n.ensures)
     ∙ sym c.overflows.ensures ∙ c.if-overflows.false) _ c.push_frame.ensures)

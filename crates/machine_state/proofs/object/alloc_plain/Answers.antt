@@ -13,18 +13,18 @@ alloc-requires c =
     let p₂ = c.requires.slots in
     record { words = omega arith; slots = omega arith }
 
-pub returns-in-Refused : goal.returns-in-Refused
-returns-in-Refused c =
+pub returns-in-Err : goal.returns-in-Err
+returns-in-Err c =
     let a = c.args in
     λ x e none w b rep.
     plain-refused a.sizes (table a.slots.now plain b) a.m b.fuel w rep a.bytes x none c.alloc.new.slots c.heap_of.result c.alloc.result
-    (c.alloc.ensures ∙ ap (alloc_of a.slots.now c.heap_of.result a.bytes) (sym e)) c.heap_of.ensures c.in-Refused.g c.in-Refused.is
+    (c.alloc.ensures ∙ ap (alloc_of a.slots.now c.heap_of.result a.bytes) (sym e)) c.heap_of.ensures c.in-Err.g c.in-Err.is
 
-pub returns-in-Done : goal.returns-in-Done
-returns-in-Done c =
+pub returns-in-Ok : goal.returns-in-Ok
+returns-in-Ok c =
     let a = c.args in
     λ x e none w b rep.
     plain-made a.sizes (table a.slots.now plain b) a.m b.fuel w rep a.bytes x none c.alloc.new.slots c.heap_of.result c.alloc.result
     (c.alloc.ensures ∙ ap (alloc_of a.slots.now c.heap_of.result a.bytes) (sym e)) c.heap_of.ensures c.requires.words
-    c.in-Done.v c.in-Done.h
-    c.allocated.result c.in-Done.is c.allocated.ensures
+    c.in-Ok.v c.in-Ok.h
+    c.allocated.result c.in-Ok.is c.allocated.ensures

@@ -37,8 +37,8 @@ pub take_handler-requires : goal.take_handler-requires
 take_handler-requires c =
     let a = c.args in
     let o = c.requires.ok in
-    catch-fits a.sizes (mem c.before.before.before.before.before.before.before.before.before.before.before.before o.beside) a.m a.fuel o.world o.rep o.sound c.requires.some c.in-By.h
-    (sym c.in-By.is ∙ read c.before.before.before.before o.world o.beside o.rep)
+    catch-fits a.sizes (mem c.before.before.before.before.before.before.before.before.before.before.before.before o.beside) a.m a.fuel o.world o.rep o.sound c.requires.some c.in-Some.h
+    (sym c.in-Some.is ∙ read c.before.before.before.before o.world o.beside o.rep)
 
 pub leave-requires : goal.leave-requires
 leave-requires c =
@@ -47,25 +47,25 @@ leave-requires c =
     let beside : Beside = record { words = on_setup a.setup.now o.beside.words; fuel = o.beside.fuel } in
     record { ok = record { world = o.world; beside = beside; rep = o.rep; sound = o.sound; room = o.room }; some = c.requires.some }
 
-pub shape_of-stack-in-By : goal.shape_of-stack-in-By
-shape_of-stack-in-By c = c.take_handler.auto.stack
+pub shape_of-stack-in-Some : goal.shape_of-stack-in-Some
+shape_of-stack-in-Some c = c.take_handler.auto.stack
 
-pub shape_of-frames-in-By : goal.shape_of-frames-in-By
-shape_of-frames-in-By c = c.take_handler.auto.frames
+pub shape_of-frames-in-Some : goal.shape_of-frames-in-Some
+shape_of-frames-in-Some c = c.take_handler.auto.frames
 
-pub returns-in-By : goal.returns-in-By
-returns-in-By c =
+pub returns-in-Some : goal.returns-in-Some
+returns-in-Some c =
     let a = c.args in let t = c.take_handler in let e = t.new in
     λ w b rep snd.
     turn-takes a.sizes (six_setup e.stack e.frames a.chain.now a.slots.now a.saved_stack.now a.saved_frames.now a.setup.now plain b) t.result.machine t.result.fuel w
-    a.value a.func a.pc t.result.answer c.in-By.h (sym c.in-By.is ∙ read c.before.before.before.before.before.before.before.before.before w b rep)
+    a.value a.func a.pc t.result.answer c.in-Some.h (sym c.in-Some.is ∙ read c.before.before.before.before.before.before.before.before.before w b rep)
     (t.ensures a.sizes w (record { words = mem c.before.before.before.before.before.before.before.before.before.before.before.before.before.before.before.before.before b; fuel = b.fuel }) rep)
 
-pub shape_of-stack-in-Nothing : goal.shape_of-stack-in-Nothing
-shape_of-stack-in-Nothing c = c.leave.auto.stack
+pub shape_of-stack-in-None : goal.shape_of-stack-in-None
+shape_of-stack-in-None c = c.leave.auto.stack
 
-pub shape_of-frames-in-Nothing : goal.shape_of-frames-in-Nothing
-shape_of-frames-in-Nothing c = c.leave.auto.frames
+pub shape_of-frames-in-None : goal.shape_of-frames-in-None
+shape_of-frames-in-None c = c.leave.auto.frames
 
 pub shape_of-chain : goal.shape_of-chain
 shape_of-chain c = c.leave.auto.chain
@@ -79,10 +79,10 @@ shape_of-saved_stack c = c.leave.auto.saved_stack
 pub shape_of-saved_frames : goal.shape_of-saved_frames
 shape_of-saved_frames c = c.leave.auto.saved_frames
 
-pub returns-in-Nothing : goal.returns-in-Nothing
-returns-in-Nothing c =
+pub returns-in-None : goal.returns-in-None
+returns-in-None c =
     let a = c.args in let t = c.leave in let e = t.new in
     λ w b rep snd.
     turn-leaves a.sizes (six_setup e.stack e.frames e.chain e.slots e.saved_stack e.saved_frames a.setup.now plain b) t.result.machine t.result.fuel w
-    a.value a.func a.pc t.result.answer (sym c.in-Nothing.is ∙ read c.before.before.before.before.before.before.before.before.before.before.before.before.before.before.before.before.before.before.before.before.before w b rep)
+    a.value a.func a.pc t.result.answer (sym c.in-None.is ∙ read c.before.before.before.before.before.before.before.before.before.before.before.before.before.before.before.before.before.before.before.before.before w b rep)
     (t.ensures w (record { words = on_setup a.setup.now b.words; fuel = b.fuel }) rep snd)

@@ -48,23 +48,23 @@ search-requires c =
     (record { stack = refl; frames = refl; chain = refl; slots = c.thrown-did.auto.slots; saved_stack = refl; saved_frames = refl; ready = refl; finalize = refl; setup = refl })
     (told c.before.before.before.before.before.before.before.before.before.before.before o.world o.beside o.rep).world
 
-pub returns-in-Refused : goal.returns-in-Refused
-returns-in-Refused c =
+pub returns-in-Err : goal.returns-in-Err
+returns-in-Err c =
     let a = c.args in
     λ w b rep snd.
-    raise-refused a.fault w a.sizes (after-made c.before.before.before.before.before b) c.thrown-did.result.machine a.fuel c.in-Refused.f c.thrown-did.result.answer c.in-Refused.is (told c.before.before.before.before.before w b rep)
+    raise-refused a.fault w a.sizes (after-made c.before.before.before.before.before b) c.thrown-did.result.machine a.fuel c.in-Err.f c.thrown-did.result.answer c.in-Err.is (told c.before.before.before.before.before w b rep)
 
 pub shape_of-stack : goal.shape_of-stack
 shape_of-stack c = c.search.auto.stack
 
-pub shape_of-frames-in-Word : goal.shape_of-frames-in-Word
-shape_of-frames-in-Word c = c.search.auto.frames
+pub shape_of-frames-in-Ok : goal.shape_of-frames-in-Ok
+shape_of-frames-in-Ok c = c.search.auto.frames
 
 pub shape_of-chain : goal.shape_of-chain
 shape_of-chain c = c.search.auto.chain
 
-pub shape_of-slots-in-Word : goal.shape_of-slots-in-Word
-shape_of-slots-in-Word c = c.search.auto.slots ∙ c.thrown-did.auto.slots
+pub shape_of-slots-in-Ok : goal.shape_of-slots-in-Ok
+shape_of-slots-in-Ok c = c.search.auto.slots ∙ c.thrown-did.auto.slots
 
 pub shape_of-saved_stack : goal.shape_of-saved_stack
 shape_of-saved_stack c = c.search.auto.saved_stack
@@ -72,13 +72,13 @@ shape_of-saved_stack c = c.search.auto.saved_stack
 pub shape_of-saved_frames : goal.shape_of-saved_frames
 shape_of-saved_frames c = c.search.auto.saved_frames
 
-pub returns-in-Word : goal.returns-in-Word
-returns-in-Word c =
+pub returns-in-Ok : goal.returns-in-Ok
+returns-in-Ok c =
     let a = c.args in let r = c.search in let e = r.new in
     λ w b rep snd.
     let u = (thrown a.fault w).world in
     let g = thrown-good a.fault w snd c.requires.raises in
     let d = told c.before.before.before.before.before.before.before.before.before.before.before.before.before.before.before.before.before.before.before.before.before.before.before.before w b rep in
     raise-searched a.fault w a.sizes (six_setup e.stack e.frames e.chain e.slots e.saved_stack e.saved_frames a.setup.now plain b)
-    r.result.machine r.result.fuel c.in-Word.v c.thrown-did.result.answer c.origin-at.result c.in-Word.is d.answer
+    r.result.machine r.result.fuel c.in-Ok.v c.thrown-did.result.answer c.origin-at.result c.in-Ok.is d.answer
     (c.origin-at.ensures a.sizes w (record { words = mem c.before.before.before.before.before.before.before.before.before.before.before.before.before.before.before.before.before.before.before.before.before.before.before.before.before.before.before.before.before.before.before.before.before.before b; fuel = a.fuel }) rep) g.still.frames r.result.answer (r.ensures u b d.world g.sound)

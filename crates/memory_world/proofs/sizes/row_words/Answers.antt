@@ -7,7 +7,7 @@ use Rattle.memory_world.proofs.Widest.{widest_in, start, more, end}
 use Rattle.memory_world.proofs.sizes.row_words.Goals as goal
 
 pub loop-i-init : goal.loop-i-init
-loop-i-init c = let ws = c.args.setup.now in (omega arith, start ws (get_or ws 13 0) (get_or ws 1 0))
+loop-i-init c = let ws = c.args.setup.now in start ws (get_or ws 13 0) (get_or ws 1 0)
 
 pub loop-i-preserved : goal.loop-i-preserved
 loop-i-preserved c =
@@ -15,10 +15,10 @@ loop-i-preserved c =
     let i = c.loop-i.i in
     let most = c.loop-i.most in
     let n = get_or ws 13 0 in
-    (omega arith, ap (λ k. max k (widest_in ws (i + 1) (n - (i + 1)))) c.larger-most.ensures ∙ sym (more ws i n most (omega arith)) ∙ c.loop-i.invariant.1)
+    ap (λ k. max k (widest_in ws (i + 1) (n - (i + 1)))) c.larger-most.ensures ∙ sym (more ws i n most (omega arith)) ∙ c.loop-i.invariant
 
 pub returns : goal.returns
 returns c =
     let ws = c.args.setup.now in
     let i = c.loop-i.i in
-    sym (end ws i (get_or ws 13 0) c.loop-i.most (omega arith)) ∙ c.loop-i.invariant.1
+    sym (end ws i (get_or ws 13 0) c.loop-i.most (omega arith)) ∙ c.loop-i.invariant

@@ -14,8 +14,8 @@ put_at-requires c =
     let p = c.requires in
     omega arith
 
-pub overflow_add-j : goal.overflow_add-j
-overflow_add-j c =
+pub overflow_step-j : goal.overflow_step-j
+overflow_step-j c =
     let t = c.loop-j-test.true in
     omega (arith, c.well_formed)
 

@@ -1,10 +1,6 @@
 -- `refuse_list` meets its contract: after j turns the first j answers stand there. Assumes nothing.
-use Prim.Native.Nat.{◌-◌}
 use Rattle.outer_run.proofs.Along.{Refused}
 use Rattle.outer_run.proofs.list.refuse_list.Given as goal
 
 abbrev pub invariant-loop-j : goal.invariant-loop-j
 invariant-loop-j l = Refused l.initial.answers l.n l.answers l.j
-
-abbrev pub decreases-loop-j : goal.decreases-loop-j
-decreases-loop-j l = l.n - l.j

@@ -18,8 +18,8 @@ do_read-did-requires c = c.loop-i.invariant.fits
 pub put_at-requires : goal.put_at-requires
 put_at-requires c = let r = c.requires.room in let k = c.loop-i.invariant.long in let t = c.loop-i-test.true in omega arith
 
-pub overflow_add-i : goal.overflow_add-i
-overflow_add-i c = let t = c.loop-i-test.true in omega arith
+pub overflow_step-i : goal.overflow_step-i
+overflow_step-i c = let t = c.loop-i-test.true in omega arith
 
 pub loop-i-smaller : goal.loop-i-smaller
 loop-i-smaller c = let t = c.loop-i-test.true in omega arith

@@ -42,12 +42,12 @@ shape_of-ready c = c.sound_call.auto.ready
 pub shape_of-finalize : goal.shape_of-finalize
 shape_of-finalize c = c.sound_call.auto.finalize
 
-pub returns-in-Is : goal.returns-in-Is
-returns-in-Is c =
+pub returns-in-Ok : goal.returns-in-Ok
+returns-in-Ok c =
     let a = c.args in
-    call-read (state (mem c.before.before.before.before.before.before.before.before.before.before.before.before.before.before.before.before.before.before.before.before.before.before.before.before.before.before.before.before.before.before.before.before.before.before.before.before) a.m a.fuel) a.read c.in-Is.op _ c.in-Is.is c.sound_call.ensures
+    call-read (state (mem c.before.before.before.before.before.before.before.before.before.before.before.before.before.before.before.before.before.before.before.before.before.before.before.before.before.before.before.before.before.before.before.before.before.before.before.before) a.m a.fuel) a.read c.in-Ok.op _ c.in-Ok.is c.sound_call.ensures
 
-pub returns-in-Not : goal.returns-in-Not
-returns-in-Not c =
+pub returns-in-Err : goal.returns-in-Err
+returns-in-Err c =
     let a = c.args in
-    no_read (mem c.before.before.before.before.before.before.before.before.before.before.before.before) a.m a.fuel c.requires.sound a.read c.in-Not.g c.refusal-f.result c.in-Not.is c.refusal-f.ensures
+    no_read (mem c.before.before.before.before.before.before.before.before.before.before.before.before) a.m a.fuel c.requires.sound a.read c.in-Err.g c.refusal-f.result c.in-Err.is c.refusal-f.ensures

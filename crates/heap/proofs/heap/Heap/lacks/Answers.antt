@@ -4,14 +4,14 @@ use borrow.Author.Tests.{lt-ltb, le-ltb}
 use Rattle.lists.specs.Pick.{pick}
 use Rattle.heap.proofs.heap.Heap.lacks.Goals as goal
 
+pub returns-then-not-fits : goal.returns-then-not-fits
+unfolding pick
+returns-then-not-fits c = rw (sym c.fits.ensures ∙ c.if-not-fits.true)
+
 pub returns-then-self : goal.returns-then-self
 unfolding pick
-returns-then-self c = rw (sym c.fits.ensures ∙ c.if-fits.true, lt-ltb _ _ c.if-self.true)
+returns-then-self c = rw (sym c.fits.ensures ∙ c.if-not-fits.false, lt-ltb _ _ c.if-self.true)
 
 pub returns-else-self : goal.returns-else-self
 unfolding pick
-returns-else-self c = rw (sym c.fits.ensures ∙ c.if-fits.true, le-ltb _ _ c.if-self.false)
-
-pub returns-else-fits : goal.returns-else-fits
-unfolding pick
-returns-else-fits c = rw (sym c.fits.ensures ∙ c.if-fits.false)
+returns-else-self c = rw (sym c.fits.ensures ∙ c.if-not-fits.false, le-ltb _ _ c.if-self.false)

@@ -1,9 +1,0 @@
--- `bodies` is safe. Assumes nothing.
-use Rattle.std.proofs.Common.{◌-◌}
-use Rattle.furnace.proofs.show.bodies.Given as goal
-
-abbrev pub invariant-loop-i : goal.invariant-loop-i
-invariant-loop-i l = Unit {0}
-
-abbrev pub decreases-loop-i : goal.decreases-loop-i
-decreases-loop-i l = l.depth - l.i

@@ -1,8 +1,0 @@
--- `stack` is safe. Assumes nothing.
-use Rattle.furnace.proofs.show.stack.Given as goal
-
-abbrev pub invariant-loop-i : goal.invariant-loop-i
-invariant-loop-i l = Unit {0}
-
-abbrev pub decreases-loop-i : goal.decreases-loop-i
-decreases-loop-i l = l.i
