@@ -255,8 +255,7 @@ def check_paths():
             count += 1
             if not (ROOT / path).exists() and not (page.parent / path).exists():
                 say(f"{page.relative_to(ROOT)}: no {path}")
-        # a block of code has no links
-        for link in set(re.findall(r"\]\(([^)\s]+)\)", re.sub(r"^```.*?^```", "", text, flags=re.M | re.S))):
+        for link in set(re.findall(r"\]\(([^)\s]+)\)", text)):
             if re.match(r"[a-z]+:", link):
                 continue
             links += 1

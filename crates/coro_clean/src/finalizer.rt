@@ -32,7 +32,9 @@ pub(crate) fn may_start(slots: &[u64], m: Machine, sizes: Sizes, v: Word) -> boo
     }
 }
 
-// The index of the first word of the cleanup queue that may start, or their number.
+// The index of the first word of the cleanup queue that may start, or their number. Never inlined: within a call's code, the registers that
+// the search of a long queue needs are not left.
+#[inline(never)]
 pub(crate) fn first_start(slots: &[u64], finalize: &[u64], m: Machine, sizes: Sizes) -> usize
     requires { SearchFits slots.now finalize.now m sizes }
     ensures { result ≡ first_of (starts slots.now m sizes) (take m.finalize finalize.now) }

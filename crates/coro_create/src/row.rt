@@ -29,13 +29,11 @@ fn row_of(o: Object) -> u64
             pc: _,
             payload: _,
         } => NONE,
-        Object::Coro(c) => {
-            let s = c.state;
-            if s.is_finished() {
-                return NONE;
-            }
-            c.row
-        }
+        Object::Coro(c) => match c.state {
+            CoroState::Created | CoroState::Running | CoroState::Yielded | CoroState::Awaiting =>
+                c.row,
+            CoroState::Returned | CoroState::Failed => NONE,
+        },
     }
 }
 

@@ -4,6 +4,8 @@ use Rattle.lists.specs.Pick.{pick}
 use Rattle.lists.specs.Parts.{part, splice}
 use Rattle.lists.specs.Tests.{all_below}
 use Rattle.heap.specs.Word.{nil}
+use Rattle.heap.specs.Fault as Faults
+use Rattle.heap.specs.declared.fault.Fault.{Fault}
 use Rattle.model.specs.Answer.{number_of}
 use Rattle.model.specs.declared.call.Op.{Op}
 use Rattle.memory_tables.specs.Layout.{base_in}
@@ -194,6 +196,11 @@ abbrev pub all_equal : ℕ → ℕ → Bool
 all_equal wakes equal = not (wakes == 0) && equal == wakes
 
 -- ---- calls, watched
+
+-- the number of the fault that is told, if one is
+abbrev pub fault_number : Option Fault → ℕ
+fault_number None = 0
+fault_number (Some f) = Faults.number_of f
 
 pub record Watched : Type 0 where
   pub state : MemoryState

@@ -1,7 +1,8 @@
 // What a person reads, as text.
+use crate::note;
 use crate::watch::{base, field, owner};
 use heap::value::{Class, Obj, Word};
-use memory_tables::frame::PC;
+use memory_tables::frame::{FRAME_WIDTH, PC};
 use memory_world::machine::Machine;
 use model::machine::Fuel;
 use std::fmt;
@@ -130,6 +131,26 @@ impl fmt::Display for Bodies<'_> {
             write!(f, "  {function:<6} {}", field(self.frames, i, PC))?;
         }
         Ok(())
+    }
+}
+
+// Where a note's second frame ends.
+const NOTED: usize = note::BODIES + FRAME_WIDTH + PC + 1;
+
+// The frames of the note at `at`, one or two of them.
+pub(crate) fn noted(notes: &[u64], at: usize) -> Bodies<'_> {
+    if notes.len() < NOTED || notes.len() - NOTED < at {
+        return Bodies {
+            frames: notes,
+            floor: 0,
+            depth: 0,
+        };
+    }
+    let n = notes[at + note::FRAMES] as usize;
+    Bodies {
+        frames: &notes[at + note::BODIES..],
+        floor: 0,
+        depth: if 1 < n { 2 } else { 1 },
     }
 }
 

@@ -1,7 +1,8 @@
 // What there is to say of a call, and the wakes counted. What the system does with the text no contract says; the counts each has.
+// What writes stands apart, never inlined: the room that its text is laid out in is then no part of a frame under which a call is made.
 ghost use Rattle.std.specs.Prelude.{◌≡◌, ◌&&◌, ◌+◌, ◌≤◌, length};
 ghost use Rattle.model.specs.Answer.{number_of};
-ghost use Rattle.furnace.specs.Watch.{is_back, noted_words, one_more, entering, counted};
+ghost use Rattle.furnace.specs.Watch.{is_back, noted_words, one_more, entering, counted, fault_number};
 
 use crate::note::{Count, Seen, note_of};
 use crate::page::Page;
@@ -73,7 +74,11 @@ fn woken(
         depth: m.depth,
     };
     let verdict = show::verdict(equal, sent.is_some());
-    write!(page, "{picture}     held     {held}{}", noted(notes, at));
+    write!(
+        page,
+        "{picture}     held     {held}{}",
+        show::noted(notes, at)
+    );
     writeln!(page, "\n     came back{back}{bodies}   {verdict}");
     count.one_more(equal)
 }
@@ -85,18 +90,8 @@ fn both(a: bool, b: bool) -> bool
     a && b
 }
 
-// The frames of the note at `at`.
-fn noted(notes: &[u64], at: usize) -> Bodies<'_>
-    requires { at + 32 ≤ length notes.now }
-{
-    Bodies {
-        frames: &notes[at + note::BODIES..],
-        floor: 0,
-        depth: at_most(note::MOST_FRAMES, notes[at + note::FRAMES] as usize),
-    }
-}
-
 // A coroutine was entered: it starts, or it is woken.
+#[inline(never)]
 fn entered(
     page: &mut Page,
     stack: &[u64],
@@ -136,10 +131,11 @@ fn asleep(page: &mut Page, c: u64, notes: &[u64])
         mark: None,
     };
     write!(page, " sleeps at height {}", notes[at + note::BASE]);
-    writeln!(page, " and holds{held}{}", noted(notes, at));
+    writeln!(page, " and holds{held}{}", show::noted(notes, at));
 }
 
 // A coroutine runs no more: it sleeps, or it has ended.
+#[inline(never)]
 fn left(page: &mut Page, c: u64, op: Op, notes: &[u64])
     requires { length notes.now ≡ 128 }
 {
@@ -150,8 +146,10 @@ fn left(page: &mut Page, c: u64, op: Op, notes: &[u64])
     }
 }
 
-// The fault that an answer tells, if it does.
-fn fault_of(answer: Answer) -> Option<Fault> {
+// The fault that an answer tells, if it does: its number is the answer's.
+fn fault_of(answer: Answer) -> Option<Fault>
+    ensures { fault_number result ≡ number_of answer }
+{
     match answer {
         Answer::Refused(fault) => Some(fault),
         Answer::Stepped { step, .. } => match step {
@@ -160,11 +158,18 @@ fn fault_of(answer: Answer) -> Option<Fault> {
         },
         Answer::Cleanup { .. } => Some(Fault::Throw(Word::NIL)),
         Answer::Unpaid { .. } => Some(Fault::OutOfFuel),
-        _ => None,
+        Answer::Accepted
+        | Answer::Word(_)
+        | Answer::Exit(_)
+        | Answer::Resume
+        | Answer::Caught
+        | Answer::Stopped
+        | Answer::Took(_) => None,
     }
 }
 
 // A fault, told to a call made while `coro` ran.
+#[inline(never)]
 fn refused(page: &mut Page, op: Op, fault: Fault, coro: u64, fuel: Fuel) {
     let n = fault.number();
     let runner = show::runner(coro);
@@ -219,6 +224,7 @@ fn outcome(page: &mut Page, stop: Option<Stop>) {
 }
 
 // Of the calls that were accepted, those that a person wants to see.
+#[inline(never)]
 fn accepted(page: &mut Page, frames: &[u64], m: Machine, fuel: Fuel, op: Op, answer: Answer) {
     let fuel = AtHand(fuel);
     let depth = m.depth;
@@ -263,11 +269,11 @@ pub(crate) fn after(
     requires { length notes.now ≡ 128 }
     ensures { result ≡ counted stack.now frames.now chain.now m (number_of answer) was notes.now count }
 {
-    match fault_of(answer) {
-        Some(fault) => refused(page, op, fault, was.coro, fuel),
-        None => accepted(page, frames, m, fuel, op, answer),
-    }
     let told = memory_calls::answer::words_of(answer);
+    match fault_of(answer) {
+        Some(fault) if told.0 != 0 => refused(page, op, fault, was.coro, fuel),
+        _ => accepted(page, frames, m, fuel, op, answer),
+    }
     if was.active < m.active {
         let sent = arrives(told.0, was.sent);
         let top = outer_call::look::look(
@@ -292,6 +298,7 @@ pub(crate) fn after(
 }
 
 // The first lines.
+#[inline(never)]
 pub(crate) fn heading(page: &mut Page) {
     writeln!(
         page,
@@ -317,6 +324,7 @@ pub(crate) fn heading(page: &mut Page) {
 }
 
 // The last lines.
+#[inline(never)]
 pub(crate) fn end(page: &mut Page, count: Count) {
     let Count { wakes, equal } = count;
     write!(page, "\n{wakes} wakes, {equal} equal");
